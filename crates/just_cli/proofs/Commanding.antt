@@ -38,14 +38,15 @@ use Rattle.just_cli_texts.specs.declared.kind.Kind.TheVariants as kind
 use Rattle.just_cli_texts.specs.declared.printed.Printed.{Printed}
 use Rattle.just_cli_texts.specs.Evaluated.{names_of_words, format_of, EvaluatesNames}
 use Rattle.just_cli_texts.specs.Formatted.{Formats}
-use Rattle.just_cli_texts.specs.Kinds.{kind_of, is_choice, is_new, is_placed, reads_justfile, words_of}
+use Rattle.just_cli_texts.specs.Kinds.{kind_of, is_choice, is_new, is_placed, is_vectors, reads_justfile, words_of}
 use Rattle.just_cli_texts.specs.Laid.{LaidRequest}
 use Rattle.just_cli_texts.specs.Prints.{alone, as_printed, Prints}
 use Rattle.just_cli_texts.specs.Responses.{requested, responded}
+use Rattle.just_cli_vectors.specs.Vectors.{count_of}
 use Rattle.just_cli.specs.declared.task.Other.{Other}
 use Rattle.just_cli.specs.declared.task.Other.TheVariants as no_run
 use Rattle.just_cli.specs.Acts.{Act, Step, Begun, NoAct, Looks, Behind, BeginsBehind}
-use Rattle.just_cli.specs.Asked.{Asked, AsksAlone, Responds, AsksAt, AsksBy, BeginsAsks, BeginsBy, as_choice, as_other, as_reply, as_run}
+use Rattle.just_cli.specs.Asked.{Asked, AsksAlone, Counts, Responds, AsksAt, AsksBy, BeginsAsks, BeginsBy, as_choice, as_other, as_reply, as_run}
 use Rattle.just_cli.specs.Choosing.{ChoosesAt, BeginsChoosesAt}
 use Rattle.just_cli.specs.NewPath.{FindsFree}
 use Rattle.just_cli.specs.Replies.{Reply}
@@ -282,12 +283,14 @@ runs_then (Some (command.Show ws)) placed reads given = absurd (let no : ⊥ = c
 runs_then (Some (command.Summary ws)) placed reads given = absurd (let no : ⊥ = cc in no)
 runs_then (Some (command.Usage ws)) placed reads given = absurd (let no : ⊥ = cc in no)
 runs_then (Some (command.Variables ws)) placed reads given = absurd (let no : ⊥ = cc in no)
+runs_then (Some (command.Vectors ws)) placed reads given = absurd (let no : ⊥ = cc in no)
 
 -- one by which something is chosen
 pub chooses_then : (k : Kind) → is_choice k ≡ true → k ≡ kind.Choose
 chooses_then kind.Run is = absurd (let no : ⊥ = cc in no)
 chooses_then kind.New is = absurd (let no : ⊥ = cc in no)
 chooses_then kind.Respond is = absurd (let no : ⊥ = cc in no)
+chooses_then kind.Vectors is = absurd (let no : ⊥ = cc in no)
 chooses_then kind.Format is = absurd (let no : ⊥ = cc in no)
 chooses_then kind.Clean is = absurd (let no : ⊥ = cc in no)
 chooses_then kind.Evaluate is = absurd (let no : ⊥ = cc in no)
@@ -296,23 +299,38 @@ chooses_then kind.Choose is = refl
 chooses_then kind.Edit is = absurd (let no : ⊥ = cc in no)
 chooses_then kind.Command is = absurd (let no : ⊥ = cc in no)
 
--- one that reads no justfile and asks for no new one asks for a response
-pub responds_then : (k : Kind) → is_new k ≡ false → reads_justfile k ≡ false → k ≡ kind.Respond
-responds_then kind.Run other alone = absurd (let no : ⊥ = cc in no)
-responds_then kind.New other alone = absurd (let no : ⊥ = cc in no)
-responds_then kind.Respond other alone = refl
-responds_then kind.Format other alone = absurd (let no : ⊥ = cc in no)
-responds_then kind.Clean other alone = absurd (let no : ⊥ = cc in no)
-responds_then kind.Evaluate other alone = absurd (let no : ⊥ = cc in no)
-responds_then kind.Print other alone = absurd (let no : ⊥ = cc in no)
-responds_then kind.Choose other alone = absurd (let no : ⊥ = cc in no)
-responds_then kind.Edit other alone = absurd (let no : ⊥ = cc in no)
-responds_then kind.Command other alone = absurd (let no : ⊥ = cc in no)
+-- one that reads no justfile, asks for no new one and tells of no run asks for a response
+pub responds_then : (k : Kind) → is_new k ≡ false → reads_justfile k ≡ false → is_vectors k ≡ false → k ≡ kind.Respond
+responds_then kind.Run other alone nor = absurd (let no : ⊥ = cc in no)
+responds_then kind.New other alone nor = absurd (let no : ⊥ = cc in no)
+responds_then kind.Respond other alone nor = refl
+responds_then kind.Vectors other alone nor = absurd (let no : ⊥ = cc in no)
+responds_then kind.Format other alone nor = absurd (let no : ⊥ = cc in no)
+responds_then kind.Clean other alone nor = absurd (let no : ⊥ = cc in no)
+responds_then kind.Evaluate other alone nor = absurd (let no : ⊥ = cc in no)
+responds_then kind.Print other alone nor = absurd (let no : ⊥ = cc in no)
+responds_then kind.Choose other alone nor = absurd (let no : ⊥ = cc in no)
+responds_then kind.Edit other alone nor = absurd (let no : ⊥ = cc in no)
+responds_then kind.Command other alone nor = absurd (let no : ⊥ = cc in no)
+
+pub vectors_then : (k : Kind) → is_vectors k ≡ true → k ≡ kind.Vectors
+vectors_then kind.Run is = absurd (let no : ⊥ = cc in no)
+vectors_then kind.New is = absurd (let no : ⊥ = cc in no)
+vectors_then kind.Respond is = absurd (let no : ⊥ = cc in no)
+vectors_then kind.Vectors is = refl
+vectors_then kind.Format is = absurd (let no : ⊥ = cc in no)
+vectors_then kind.Clean is = absurd (let no : ⊥ = cc in no)
+vectors_then kind.Evaluate is = absurd (let no : ⊥ = cc in no)
+vectors_then kind.Print is = absurd (let no : ⊥ = cc in no)
+vectors_then kind.Choose is = absurd (let no : ⊥ = cc in no)
+vectors_then kind.Edit is = absurd (let no : ⊥ = cc in no)
+vectors_then kind.Command is = absurd (let no : ⊥ = cc in no)
 
 pub new_then : (k : Kind) → is_new k ≡ true → k ≡ kind.New
 new_then kind.Run is = absurd (let no : ⊥ = cc in no)
 new_then kind.New is = refl
 new_then kind.Respond is = absurd (let no : ⊥ = cc in no)
+new_then kind.Vectors is = absurd (let no : ⊥ = cc in no)
 new_then kind.Format is = absurd (let no : ⊥ = cc in no)
 new_then kind.Clean is = absurd (let no : ⊥ = cc in no)
 new_then kind.Evaluate is = absurd (let no : ⊥ = cc in no)
@@ -353,6 +371,10 @@ module _ (c : ConfigRequest) where
   pub unresponded : (e : Error) → OrMemory (λ x. answered ≡ Err x) e → OrMemory (λ x. Responds c (Err x)) e
   unresponded e (inl wants) = inl wants
   unresponded e (inr is) = inr (sym (ap (λ r. as_other (as_shown (as_printed r))) is))
+
+-- so many recipes are asked for, as the words count them
+pub counts_so : (c : ConfigRequest) (count : ℕ) → count ≡ count_of (words_of c.config.subcommand) → Counts c (Ok (Asked.other (no_run.Vectors count)))
+counts_so c count is = ap (λ n. let asked : Result Asked Error = Ok (Asked.other (no_run.Vectors n)) in asked) is
 
 -- ---- tasks of replies
 
@@ -468,6 +490,7 @@ module _ (q : LocatedRequest) (before after : Moment) (kept keeps : List (List �
     by_kind kind.Edit p acts world x asks = (x, asks, refl)
     by_kind kind.Command p acts world x asks = (x, asks, refl)
     by_kind kind.Choose p acts world x asks = absurd (let no : ⊥ = cc in no)
+    by_kind kind.Vectors p acts world x asks = absurd (let no : ⊥ = cc in no)
 
     begins_by_kind : (j : Kind) → is_placed j ≡ true → (acts : List Act) (world : Option World) → BeginsCommand j before.world acts world q → BeginsBy j before.world acts world q
     begins_by_kind kind.Format p acts world begins = begins
@@ -480,6 +503,7 @@ module _ (q : LocatedRequest) (before after : Moment) (kept keeps : List (List �
     begins_by_kind kind.Edit p acts world begins = begins
     begins_by_kind kind.Command p acts world begins = begins
     begins_by_kind kind.Choose p acts world begins = absurd (let no : ⊥ = cc in no)
+    begins_by_kind kind.Vectors p acts world begins = absurd (let no : ⊥ = cc in no)
 
     asked_so : (acts : List Act) (x : Result Other Error) → CommandsIt acts after.world x → AsksPlaced acts after.world (as_other x)
     asked_so acts x asks = subst (λ j. AsksBy j before.world acts after.world q (as_other x)) (sym is) (by_kind k placed acts after.world x asks)

@@ -86,6 +86,7 @@ module _ (words : List (List ℕ)) (before between settled after : Moment) (kept
   ended_other (no_run.Write path text) is does = command_ended (no_run.Write path text) (λ listings acts es left. left) is.0 is.1 does
   ended_other (no_run.Clean folder path) is does = command_ended (no_run.Clean folder path) (λ listings acts es left. left) is.0 is.1 does
   ended_other (no_run.Invoke child) is does = command_ended (no_run.Invoke child) (λ listings acts es left. left) is.0 is.1 does
+  ended_other (no_run.Vectors count) is does = command_ended (no_run.Vectors count) (λ listings acts es left. left) is.0 is.1 does
 
 -- a path is one, where one is given, and a child has no script
 pub has_path : (words : List (List ℕ)) (before after : Moment) (kept keeps : List (List ℕ)) (c : Other) (quiet : Bool) → IsTask words before after kept keeps (task.Other c quiet) → HasPath c
@@ -97,6 +98,7 @@ has_path words before after kept keeps no_run.Nothing quiet is = tt
 has_path words before after kept keeps (no_run.Write path text) quiet is = tt
 has_path words before after kept keeps (no_run.Clean folder path) quiet is = is.2
 has_path words before after kept keeps (no_run.Invoke child) quiet is = is.2
+has_path words before after kept keeps (no_run.Vectors count) quiet is = tt
 
 -- ---- a refusal, and a run
 

@@ -116,6 +116,7 @@ prints_of_silent c (Some (command.Evaluate ws)) p e is = absurd is
 prints_of_silent c (Some (command.Fmt ws)) p e is = absurd is
 prints_of_silent c (Some (command.Init ws)) p e is = absurd is
 prints_of_silent c (Some (command.Request ws)) p e is = absurd is
+prints_of_silent c (Some (command.Vectors ws)) p e is = absurd is
 
 pub prints_silent : (environ : Pairs) (c : Config) (l : LaidSources) (e : Error) → OrMemory (λ x. Prints environ c l (Err x)) e → entries_of e ≡ []
 prints_silent environ c l e why = or_silent (λ x. Prints environ c l (Err x)) e (λ x prints. prints_of_silent c c.subcommand prints.0 x prints.2) why

@@ -418,6 +418,7 @@ commands_own kind.Edit w acts more rest left after later q r s p own o other all
 commands_own kind.Command w acts more rest left after later q r s p own o other all told =
     behind_own_of FindsProjectAt (InvokesLaid q.config) Ends project_own project_ends (modules_one (Then EvaluatesVariables (InvokesIt q.config)) (invokes_one q.config)) w acts more rest left after later q r s p own o other all told
 commands_own kind.Choose w acts more rest left after later q r s p own o other all told = absurd p
+commands_own kind.Vectors w acts more rest left after later q r s p own o other all told = absurd p
 
 -- ---- behind the configuration
 
@@ -466,6 +467,7 @@ by_own : (k : Kind) → GivesOwnStep (AsksBy k)
 by_own kind.Run = runs_own
 by_own kind.New = command_own kind.New
 by_own kind.Respond = command_own kind.Respond
+by_own kind.Vectors = command_own kind.Vectors
 by_own kind.Format = command_own kind.Format
 by_own kind.Clean = command_own kind.Clean
 by_own kind.Evaluate = command_own kind.Evaluate
@@ -481,6 +483,7 @@ at_own w acts more rest left after later q r s p own o other all told = by_own (
 alone_own : (w : World) (k : Kind) → GivesOwn (AsksAlone k (Some w))
 alone_own w kind.New c r s (x, p, is) own (y, q, at) other = is ∙ (ap (λ z. as_new z) (new_own w c.config x y p (own_new x r is own) q (own_new y s at other)) ∙ sym at)
 alone_own w kind.Respond c r s p own q other = p ∙ sym q
+alone_own w kind.Vectors c r s p own q other = p ∙ sym q
 alone_own w kind.Run c r s p own q other = absurd p
 alone_own w kind.Format c r s p own q other = absurd p
 alone_own w kind.Clean c r s p own q other = absurd p

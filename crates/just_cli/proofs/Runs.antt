@@ -33,6 +33,8 @@ use Rattle.just_cli_plan.specs.Pairs.{entries_of as entries_in}
 use Rattle.just_cli.specs.Preparing.{EndsWith, LeavesActs, EndsActs, Performs, Prepares}
 use Rattle.just_config.specs.declared.help.TheConstants.{HELP}
 use Rattle.just_cli_texts.specs.declared.printed.Printed.{Printed}
+use Rattle.just_cli_texts.specs.Prints.{alone}
+use Rattle.just_cli_vectors.specs.Vectors.{vectors_text}
 use Rattle.just_cli.specs.declared.task.Other.{Other}
 use Rattle.just_cli.specs.declared.task.Other.TheVariants as no_run
 use Rattle.just_cli_children.specs.declared.child.Child.{Child}
@@ -252,6 +254,7 @@ module _ (q : Asking) (before between settled after : Moment) (listings : List E
   stays_for (no_run.Write path text) quiet r does es grown calm = tt
   stays_for (no_run.Clean folder path) quiet r does es grown calm = tt
   stays_for (no_run.Invoke child) quiet r does es grown calm = still_behind (invoked_still child quiet between settled r does) es grown calm
+  stays_for (no_run.Vectors count) quiet r does es grown calm = still_behind (printed_still (alone (vectors_text count)) quiet between settled r does) es grown calm
 
 -- a plan is told for it
 pub dry_done : (q : Asking) (before between settled after : Moment) → AsksOneIn q before.world → (kept made : List (List ℕ)) (plan : Plan) (jobs : Option ℕ) (messages : List Bool) (quiet : Bool) (r : Result Report Failure) → kept ≡ []

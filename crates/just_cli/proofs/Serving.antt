@@ -183,6 +183,7 @@ module _ (words : List (List ℕ)) (before : Moment) (kept : List (List ℕ)) wh
       words_served (task.Other (no_run.Write path text) quiet) served is found = task_so (Asked.other (no_run.Write path text)) quiet served is
       words_served (task.Other (no_run.Clean folder path) quiet) served is found = (served_so (Ok (Asked.other (no_run.Clean folder path))) served, asks_so quiet is, found)
       words_served (task.Other (no_run.Invoke child) quiet) served is found = (served_so (Ok (Asked.other (no_run.Invoke child))) served, asks_so quiet is, found)
+      words_served (task.Other (no_run.Vectors count) quiet) served is found = task_so (Asked.other (no_run.Vectors count)) quiet served is
 
       pub words_unserved : (e : Error) → Served a environ seen after kept keeps (Err e) → PreparesWords words before after kept keeps (Err e)
       words_unserved e served = served_so (Err e) served

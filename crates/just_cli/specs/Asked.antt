@@ -17,6 +17,7 @@ use Rattle.just_cli_texts.specs.declared.printed.Printed.{Printed}
 use Rattle.just_cli_texts.specs.Kinds.{kind_of, reads_justfile, words_of}
 use Rattle.just_cli_texts.specs.Prints.{as_printed}
 use Rattle.just_cli_texts.specs.Responses.{requested, responded}
+use Rattle.just_cli_vectors.specs.Vectors.{count_of}
 use Rattle.just_cli.specs.declared.task.Other.{Other}
 use Rattle.just_cli.specs.declared.task.Other.TheVariants as no_run
 use Rattle.just_cli.specs.Acts.{Act, Step, Begun, NoAct, Looks, Behind, BeginsBehind}
@@ -87,6 +88,7 @@ abbrev pub AsksBy : Kind → Step LocatedRequest Asked
 AsksBy kind.Run told acts after q r = RunsTried told acts after q r
 AsksBy kind.New told acts after q r = CommandAsks kind.New told acts after q r
 AsksBy kind.Respond told acts after q r = CommandAsks kind.Respond told acts after q r
+AsksBy kind.Vectors told acts after q r = CommandAsks kind.Vectors told acts after q r
 AsksBy kind.Format told acts after q r = CommandAsks kind.Format told acts after q r
 AsksBy kind.Clean told acts after q r = CommandAsks kind.Clean told acts after q r
 AsksBy kind.Evaluate told acts after q r = CommandAsks kind.Evaluate told acts after q r
@@ -110,10 +112,15 @@ as_new (Err e) = Err e
 abbrev pub Responds : ConfigRequest → Result Asked Error → Type 0
 Responds c r = r ≡ as_other (as_shown (as_printed (responded c.environ.pairs (requested (words_of c.config.subcommand)))))
 
--- a command that reads no justfile: a new justfile, or the response to a request
+-- so many recipes, whose run over a host in memory is told of
+abbrev pub Counts : ConfigRequest → Result Asked Error → Type 0
+Counts c r = r ≡ Ok (Asked.other (no_run.Vectors (count_of (words_of c.config.subcommand))))
+
+-- a command that reads no justfile: a new justfile, the response to a request, or the run of so many recipes
 abbrev pub AsksAlone : Kind → Option World → ConfigRequest → Result Asked Error → Type 0
 AsksAlone kind.New told c r = (x : Result (List ℕ) Error) × FindsFree told c.config x × (r ≡ as_new x)
 AsksAlone kind.Respond told c r = Responds c r
+AsksAlone kind.Vectors told c r = Counts c r
 AsksAlone kind.Run told c r = ⊥
 AsksAlone kind.Format told c r = ⊥
 AsksAlone kind.Clean told c r = ⊥
@@ -161,6 +168,7 @@ abbrev pub BeginsBy : Kind → Begun LocatedRequest
 BeginsBy kind.Run told acts after q = BeginsTries told acts after q
 BeginsBy kind.New told acts after q = BeginsCommand kind.New told acts after q
 BeginsBy kind.Respond told acts after q = BeginsCommand kind.Respond told acts after q
+BeginsBy kind.Vectors told acts after q = BeginsCommand kind.Vectors told acts after q
 BeginsBy kind.Format told acts after q = BeginsCommand kind.Format told acts after q
 BeginsBy kind.Clean told acts after q = BeginsCommand kind.Clean told acts after q
 BeginsBy kind.Evaluate told acts after q = BeginsCommand kind.Evaluate told acts after q

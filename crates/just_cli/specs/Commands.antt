@@ -132,6 +132,7 @@ CommandsAt kind.Respond told acts after q r = ⊥
 CommandsAt kind.Edit told acts after q r = EditsAt told acts after q r
 CommandsAt kind.Command told acts after q r = InvokesAt told acts after q r
 CommandsAt kind.Choose told acts after q r = ⊥
+CommandsAt kind.Vectors told acts after q r = ⊥
 
 -- what was begun of it, where memory was wanting
 abbrev pub BeginsCommand : Kind → Begun LocatedRequest
@@ -145,3 +146,4 @@ BeginsCommand kind.Respond told acts after q = ⊥
 BeginsCommand kind.Edit told acts after q = BeginsBehind BeginsFile TakesFile NoAct told acts after q
 BeginsCommand kind.Command told acts after q = BeginsAt told acts after q
 BeginsCommand kind.Choose told acts after q = ⊥
+BeginsCommand kind.Vectors told acts after q = ⊥

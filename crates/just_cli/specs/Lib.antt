@@ -24,6 +24,7 @@ pub mod Request
 pub mod Run
 pub mod Taken
 pub mod Tasks
+pub mod Vectors
 pub mod Whole
 pub mod Words
 pub mod Written

@@ -3,6 +3,8 @@ use Rattle.std.specs.Prelude.{ℕ, ◌≡◌, Bool, List, [], Option, Result}
 use Rattle.just_host_record.specs.declared.entry.Entry.{Entry}
 use Rattle.just_host_record.specs.World.{World, Moment}
 use Rattle.just_config.specs.declared.help.TheConstants.{HELP}
+use Rattle.just_cli_texts.specs.Prints.{alone}
+use Rattle.just_cli_vectors.specs.Vectors.{vectors_text}
 use Rattle.just_cli.specs.declared.ended.Failure.{Failure}
 use Rattle.just_cli.specs.declared.ended.Report.{Report}
 use Rattle.just_cli.specs.declared.init_text.TheConstants.{INIT_JUSTFILE}
@@ -17,7 +19,7 @@ use Rattle.just_cli.specs.Printing.{IsPrinted, IsIdle}
 use Rattle.just_cli.specs.Questions.{version_line, IsShown}
 use Rattle.just_cli.specs.Written.{IsWritten}
 
--- a text is printed, a justfile written, a cache cleaned, or a child run alone; the line that tells of it isn't told where the words ask for quiet
+-- a text is printed, that of a run over a host in memory too, a justfile written, a cache cleaned, or a child run alone; the line that tells of it isn't told where the words ask for quiet
 abbrev pub Does : Other → Bool → Moment → Moment → Result Report Failure → Type 0
 Does no_run.Help quiet before after result = IsShown HELP.now before after result
 Does no_run.Version quiet before after result = IsShown version_line before after result
@@ -27,6 +29,7 @@ Does no_run.Nothing quiet before after result = IsIdle before after result
 Does (no_run.Write path text) quiet before after result = IsWritten path text quiet before after result
 Does (no_run.Clean folder path) quiet before after result = IsCleaned folder path quiet before after result
 Does (no_run.Invoke child) quiet before after result = IsInvoked child quiet before after result
+Does (no_run.Vectors count) quiet before after result = IsPrinted (alone (vectors_text count)) quiet before after result
 
 -- quiet is asked for so, where it is asked for at all: the help and the version are printed all the same
 abbrev pub HeedsQuiet : (Bool → Type 0) → Other → Bool → Type 0
@@ -38,6 +41,7 @@ HeedsQuiet asks no_run.Nothing quiet = asks quiet
 HeedsQuiet asks (no_run.Write path text) quiet = asks quiet
 HeedsQuiet asks (no_run.Clean folder path) quiet = asks quiet
 HeedsQuiet asks (no_run.Invoke child) quiet = asks quiet
+HeedsQuiet asks (no_run.Vectors count) quiet = asks quiet
 
 -- what finding it leaves in the record: the help and the version leave nothing
 abbrev pub LeavesFor : Other → List Entry → List Act → List Entry → Type 0
@@ -49,6 +53,7 @@ LeavesFor no_run.Nothing listings acts es = LeavesActs listings acts es
 LeavesFor (no_run.Write path text) listings acts es = LeavesActs listings acts es
 LeavesFor (no_run.Clean folder path) listings acts es = LeavesActs listings acts es
 LeavesFor (no_run.Invoke child) listings acts es = LeavesActs listings acts es
+LeavesFor (no_run.Vectors count) listings acts es = LeavesActs listings acts es
 
 -- it leaves a told world as it was, but for paths at or below temporary folders; of a justfile that is written and of a cache that is cleaned what is done says it
 abbrev pub StaysFor : Other → List (List ℕ) → Option World → Option World → Type 0
@@ -60,3 +65,4 @@ StaysFor no_run.Nothing folders told after = StaysAsItWas folders told after
 StaysFor (no_run.Write path text) folders told after = Unit {0}
 StaysFor (no_run.Clean folder path) folders told after = Unit {0}
 StaysFor (no_run.Invoke child) folders told after = StaysAsItWas folders told after
+StaysFor (no_run.Vectors count) folders told after = StaysAsItWas folders told after

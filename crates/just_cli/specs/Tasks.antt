@@ -54,6 +54,7 @@ HasPath no_run.Nothing = Unit {0}
 HasPath (no_run.Write path text) = Unit {0}
 HasPath (no_run.Clean folder path) = IsPathOrNone path
 HasPath (no_run.Invoke child) = HasNoScript child
+HasPath (no_run.Vectors count) = Unit {0}
 
 -- it is neither the help nor the version; a path is one, and a child has no script
 abbrev pub IsCommand : Other → Type 0
@@ -65,6 +66,7 @@ IsCommand no_run.Nothing = Unit {0}
 IsCommand (no_run.Write path text) = Unit {0}
 IsCommand (no_run.Clean folder path) = IsPathOrNone path
 IsCommand (no_run.Invoke child) = HasNoScript child
+IsCommand (no_run.Vectors count) = Unit {0}
 
 abbrev pub IsNoQuestion : Task → Type 0
 IsNoQuestion (task.Run p jobs messages quiet) = Unit {0}
@@ -112,3 +114,4 @@ IsTask words before after kept keeps (task.Other no_run.Nothing quiet) = Prepare
 IsTask words before after kept keeps (task.Other (no_run.Write path text) quiet) = PreparesWords words before after kept keeps (Ok (Asked.other (no_run.Write path text))) × AsksQuiet words before.world quiet
 IsTask words before after kept keeps (task.Other (no_run.Clean folder path) quiet) = PreparesWords words before after kept keeps (Ok (Asked.other (no_run.Clean folder path))) × AsksQuiet words before.world quiet × IsPathOrNone path
 IsTask words before after kept keeps (task.Other (no_run.Invoke child) quiet) = PreparesWords words before after kept keeps (Ok (Asked.other (no_run.Invoke child))) × AsksQuiet words before.world quiet × HasNoScript child
+IsTask words before after kept keeps (task.Other (no_run.Vectors count) quiet) = PreparesWords words before after kept keeps (Ok (Asked.other (no_run.Vectors count))) × AsksQuiet words before.world quiet

@@ -484,6 +484,6 @@ pub(crate) fn command_at<H: Host>(
         Kind::Format => format_at(alloc, environ, config, location, made, host),
         Kind::Edit => edit_at(alloc, environ, config, location, made, host),
         Kind::Command => invoke_at(alloc, environ, config, location, made, host),
-        Kind::Run | Kind::New | Kind::Respond | Kind::Choose => unreachable!(),
+        Kind::Run | Kind::New | Kind::Respond | Kind::Vectors | Kind::Choose => unreachable!(),
     }
 }

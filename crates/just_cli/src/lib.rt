@@ -26,6 +26,7 @@ mod show;
 mod taken;
 mod task;
 mod tried;
+mod vectors;
 
 pub use ended::{Ended, Failure, Report};
 pub use init_text::INIT_JUSTFILE;

@@ -13,11 +13,14 @@ use super::invoke::invoke;
 use super::printing::{done, print};
 use super::show::show;
 use super::task::Other;
+use super::vectors::show_vectors;
 use super::{Ended, Error};
 use just_config::{HELP, Version};
 use just_host::Host;
 use just_path_text::{NoMemory, Seq, Text};
 use std::alloc::Global;
+use std::sync::Wait;
+use std::thread::Threads;
 
 /// The line of the version.
 fn version(alloc: Global) -> Result<Text, NoMemory>
@@ -36,9 +39,15 @@ fn show_version<H: Host>(alloc: Global, host: H) -> Ended<H>
     }
 }
 
-/// Does what words ask for that is no run: prints a text to standard output, writes a justfile, cleans a cache, or runs a child alone. It waits for that
-/// child.
-pub(crate) fn do_other<H: Host>(alloc: Global, host: H, other: Other, quiet: bool) -> Ended<H>
+/// Does what words ask for that is no run: prints a text to standard output, that of a run over a host in memory too,
+/// writes a justfile, cleans a cache, or runs a child alone. It waits for that child.
+pub(crate) fn do_other<R: Threads + Wait + Sync, H: Host>(
+    rt: &R,
+    alloc: Global,
+    host: H,
+    other: Other,
+    quiet: bool,
+) -> Ended<H>
     requires path { HasPath other }
     ensures { Does other quiet (H.told host) (H.told result.host) result.result }
 {
@@ -51,5 +60,6 @@ pub(crate) fn do_other<H: Host>(alloc: Global, host: H, other: Other, quiet: boo
         Other::Write(path, text) => write_justfile(alloc, host, path, text.as_str(), quiet),
         Other::Clean(folder, path) => clean(alloc, host, folder, path, quiet),
         Other::Invoke(child) => invoke(alloc, host, child, quiet),
+        Other::Vectors(count) => show_vectors(rt, alloc, host, count, quiet),
     }
 }

@@ -1,11 +1,12 @@
 //! From the words to the task: the steps of a request, in their order.
 
-ghost use Rattle.std.specs.Prelude.{◌≡◌, ◌++◌, true, false, [], List, map, option_map, IfOk, IfErr, MatchResult, Ok, Err};
+ghost use Rattle.std.specs.Prelude.{◌≡◌, ◌++◌, true, false, [], List, None, map, option_map, IfOk, IfErr, MatchResult, Ok, Err, Option};
 ghost use Rattle.std.specs.Int.NonZero.{non_zero_u64_get};
 ghost use Rattle.just_host_record.specs.declared.entry.Entry.{Entry};
+ghost use Rattle.just_host_record.specs.World.{World};
 ghost use Rattle.just_cli_plan.specs.Own.{OrMemory};
 ghost use Rattle.just_cli_plan.specs.Request.{outline_of};
-ghost use Rattle.just_cli_texts.specs.Kinds.{kind_of, is_choice, reads_justfile};
+ghost use Rattle.just_cli_texts.specs.Kinds.{kind_of, is_choice, is_new, reads_justfile};
 ghost use Rattle.just_cli_texts.specs.declared.kind.Kind.TheVariants as kind;
 ghost use Rattle.just_cli.specs.Asked.{AsksAlone, Responds, as_other, as_run, as_reply, as_choice};
 ghost use Rattle.just_cli_children.specs.Faults.{entries_of};
@@ -23,8 +24,9 @@ use super::replied::Replied;
 use super::task::{Other, Task};
 use super::tried::reply_tried;
 use just_cli_texts::{
-    alone, is_choice, is_new, is_placed, kind_of, reads_justfile, respond, words_of,
+    alone, is_choice, is_new, is_placed, is_vectors, kind_of, reads_justfile, respond, words_of,
 };
+use just_cli_vectors::count_of;
 use just_config::{Arguments, Config, Read};
 use just_host::Host;
 use just_path::Utf8PathBuf;
@@ -71,6 +73,28 @@ fn respond_alone(alloc: Global, environ: &Environ, config: &Config) -> Result<Ot
     }
 }
 
+/// What a command asks for that reads nothing of the host: the response to a request, or the run of so many recipes.
+fn answer_alone(alloc: Global, environ: &Environ, config: &Config) -> Result<Other, Error>
+    requires alone { reads_justfile (kind_of config.now.subcommand) ≡ false }
+    requires old { is_new (kind_of config.now.subcommand) ≡ false }
+    ensures asked { (told : Option World) → IfOk result (λ x.
+        AsksAlone (kind_of config.now.subcommand) told
+        (record { config = config.now; environ = environ.now }) (as_other (Ok x))) }
+    ensures refused { (told : Option World) → IfErr result (OrMemory (λ e.
+        AsksAlone (kind_of config.now.subcommand) told
+        (record { config = config.now; environ = environ.now }) (Err e))) }
+    ensures found { IfOk result IsCommand }
+    ensures silent { IfErr result (λ e. entries_of e ≡ []) }
+{
+    if is_vectors(kind_of(&config.subcommand)) {
+        return Ok(Other::Vectors(count_of(words_of(&config.subcommand))));
+    }
+    match respond_alone(alloc, environ, config) {
+        Ok(other) => Ok(other),
+        Err(error) => Err(error),
+    }
+}
+
 /// What a command asks for that reads no justfile. The record gains the miss of the path of a new justfile, and the entry of the refused call.
 fn asked_alone<H: Host>(
     alloc: Global,
@@ -93,7 +117,7 @@ fn asked_alone<H: Host>(
     if is_new(kind_of(&config.subcommand)) {
         return new_alone(alloc, environ, config, host);
     }
-    match respond_alone(alloc, environ, config) {
+    match answer_alone(alloc, environ, config) {
         Ok(other) => Ok(other),
         Err(error) => Err(error),
     }

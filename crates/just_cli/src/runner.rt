@@ -44,7 +44,7 @@ fn run_made<R: Threads + Wait + Sync, H: Host + Send + Drop>(
         Ok(Task::Run(plan, jobs, messages, quiet)) => (plan, jobs, messages, quiet),
         Ok(Task::Dry(plan, _, _, quiet)) => return (dry_run(alloc, host, plan, quiet), made),
         Ok(Task::List(printed, quiet)) => return (print(alloc, host, printed, quiet), made),
-        Ok(Task::Other(other, quiet)) => return (do_other(alloc, host, other, quiet), made),
+        Ok(Task::Other(other, quiet)) => return (do_other(rt, alloc, host, other, quiet), made),
         Err((error, quiet)) => {
             return (fail(alloc, host, error, quiet, None, Seq::new(alloc)), made);
         }

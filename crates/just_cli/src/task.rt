@@ -41,4 +41,6 @@ pub enum Other {
     Clean(Utf8PathBuf, Option<Modulepath>),
     /// A child that is run alone.
     Invoke(Child),
+    /// So many recipes, whose run over a host in memory is told of.
+    Vectors(u32),
 }

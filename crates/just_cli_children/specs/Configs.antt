@@ -39,6 +39,7 @@ is_summary (Some (command.Show ws)) = false
 is_summary (Some (command.Summary ws)) = true
 is_summary (Some (command.Usage ws)) = false
 is_summary (Some (command.Variables ws)) = false
+is_summary (Some (command.Vectors ws)) = false
 
 -- whether unstable features are allowed: by the words, or for the paths of recipes alone
 abbrev pub allows_unstable : Config → Bool

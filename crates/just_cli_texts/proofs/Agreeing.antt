@@ -86,6 +86,7 @@ module _ (agree : PrintersAgree) where
   prints_of_one c p (Some (command.Fmt ws)) x y h g = absurd h
   prints_of_one c p (Some (command.Init ws)) x y h g = absurd h
   prints_of_one c p (Some (command.Request ws)) x y h g = absurd h
+  prints_of_one c p (Some (command.Vectors ws)) x y h g = absurd h
 
   prints_one : (environ : Pairs) (c : Config) (l : LaidSources) (x y : Result Printed Error) → Prints environ c l x → Prints environ c l y → x ≡ y
   prints_one environ c l x y (p, are, h) (q, also, g) = prints_of_one c q c.subcommand x y (subst (λ (z : Parts). PrintsOf c c.subcommand z x) (parts_one environ l p q are also) h) g

@@ -23,12 +23,14 @@ kind_of (Some (command.Show ws)) = kind.Print
 kind_of (Some (command.Summary ws)) = kind.Print
 kind_of (Some (command.Usage ws)) = kind.Print
 kind_of (Some (command.Variables ws)) = kind.Print
+kind_of (Some (command.Vectors ws)) = kind.Vectors
 
 -- whether it reads a justfile
 abbrev pub reads_justfile : Kind → Bool
 reads_justfile kind.Run = true
 reads_justfile kind.New = false
 reads_justfile kind.Respond = false
+reads_justfile kind.Vectors = false
 reads_justfile kind.Format = true
 reads_justfile kind.Clean = true
 reads_justfile kind.Evaluate = true
@@ -42,6 +44,7 @@ abbrev pub is_new : Kind → Bool
 is_new kind.Run = false
 is_new kind.New = true
 is_new kind.Respond = false
+is_new kind.Vectors = false
 is_new kind.Format = false
 is_new kind.Clean = false
 is_new kind.Evaluate = false
@@ -50,11 +53,26 @@ is_new kind.Choose = false
 is_new kind.Edit = false
 is_new kind.Command = false
 
+-- whether it tells of a run over a host in memory
+abbrev pub is_vectors : Kind → Bool
+is_vectors kind.Run = false
+is_vectors kind.New = false
+is_vectors kind.Respond = false
+is_vectors kind.Vectors = true
+is_vectors kind.Format = false
+is_vectors kind.Clean = false
+is_vectors kind.Evaluate = false
+is_vectors kind.Print = false
+is_vectors kind.Choose = false
+is_vectors kind.Edit = false
+is_vectors kind.Command = false
+
 -- whether it asks something of the justfile in its place
 abbrev pub is_placed : Kind → Bool
 is_placed kind.Run = false
 is_placed kind.New = false
 is_placed kind.Respond = false
+is_placed kind.Vectors = false
 is_placed kind.Format = true
 is_placed kind.Clean = true
 is_placed kind.Evaluate = true
@@ -68,6 +86,7 @@ abbrev pub is_choice : Kind → Bool
 is_choice kind.Run = false
 is_choice kind.New = false
 is_choice kind.Respond = false
+is_choice kind.Vectors = false
 is_choice kind.Format = false
 is_choice kind.Clean = false
 is_choice kind.Evaluate = false
@@ -94,3 +113,4 @@ words_of (Some (command.Show ws)) = ws
 words_of (Some (command.Summary ws)) = ws
 words_of (Some (command.Usage ws)) = ws
 words_of (Some (command.Variables ws)) = ws
+words_of (Some (command.Vectors ws)) = ws

@@ -67,6 +67,7 @@ PrintsOf c (Some (command.Evaluate ws)) p r = ⊥
 PrintsOf c (Some (command.Fmt ws)) p r = ⊥
 PrintsOf c (Some (command.Init ws)) p r = ⊥
 PrintsOf c (Some (command.Request ws)) p r = ⊥
+PrintsOf c (Some (command.Vectors ws)) p r = ⊥
 
 -- what a configuration's command prints of a justfile with its layout
 abbrev pub Prints : Pairs → Config → LaidSources → Result Printed Error → Type 0

@@ -1,7 +1,7 @@
 //! What a command does.
 
 ghost use Rattle.std.specs.Prelude.{◌≡◌};
-ghost use Rattle.just_cli_texts.specs.Kinds.{is_choice, is_new, is_placed, kind_of, reads_justfile, words_of};
+ghost use Rattle.just_cli_texts.specs.Kinds.{is_choice, is_new, is_placed, is_vectors, kind_of, reads_justfile, words_of};
 
 use just_config::Subcommand;
 use just_path_text::Text;
@@ -15,6 +15,8 @@ pub enum Kind {
     New,
     /// A request is answered.
     Respond,
+    /// A run over a host in memory is told of.
+    Vectors,
     /// The justfile is written anew in one style.
     Format,
     /// The cache is cleaned.
@@ -39,6 +41,7 @@ pub fn kind_of(command: &Option<Subcommand>) -> Kind
         None => Kind::Run,
         Some(Subcommand::Init(_)) => Kind::New,
         Some(Subcommand::Request(_)) => Kind::Respond,
+        Some(Subcommand::Vectors(_)) => Kind::Vectors,
         Some(Subcommand::Fmt(_)) => Kind::Format,
         Some(Subcommand::Clean(_)) => Kind::Clean,
         Some(Subcommand::Evaluate(_)) => Kind::Evaluate,
@@ -62,7 +65,7 @@ pub fn reads_justfile(kind: Kind) -> bool
     ensures { result ≡ reads_justfile kind }
 {
     match kind {
-        Kind::New | Kind::Respond => false,
+        Kind::New | Kind::Respond | Kind::Vectors => false,
         Kind::Run
         | Kind::Format
         | Kind::Clean
@@ -82,6 +85,26 @@ pub fn is_new(kind: Kind) -> bool
         Kind::New => true,
         Kind::Run
         | Kind::Respond
+        | Kind::Vectors
+        | Kind::Format
+        | Kind::Clean
+        | Kind::Evaluate
+        | Kind::Print
+        | Kind::Choose
+        | Kind::Edit
+        | Kind::Command => false,
+    }
+}
+
+/// Whether it tells of a run over a host in memory.
+pub fn is_vectors(kind: Kind) -> bool
+    ensures { result ≡ is_vectors kind }
+{
+    match kind {
+        Kind::Vectors => true,
+        Kind::Run
+        | Kind::New
+        | Kind::Respond
         | Kind::Format
         | Kind::Clean
         | Kind::Evaluate
@@ -99,7 +122,7 @@ pub fn is_placed(kind: Kind) -> bool
     match kind {
         Kind::Format | Kind::Clean | Kind::Evaluate | Kind::Print | Kind::Edit | Kind::Command =>
             true,
-        Kind::Run | Kind::New | Kind::Respond | Kind::Choose => false,
+        Kind::Run | Kind::New | Kind::Respond | Kind::Vectors | Kind::Choose => false,
     }
 }
 
@@ -112,6 +135,7 @@ pub fn is_choice(kind: Kind) -> bool
         Kind::Run
         | Kind::New
         | Kind::Respond
+        | Kind::Vectors
         | Kind::Format
         | Kind::Clean
         | Kind::Evaluate
@@ -142,7 +166,8 @@ pub fn words_of(command: &Option<Subcommand>) -> &[Text]
             | Subcommand::Show(words)
             | Subcommand::Summary(words)
             | Subcommand::Usage(words)
-            | Subcommand::Variables(words),
+            | Subcommand::Variables(words)
+            | Subcommand::Vectors(words),
         ) => words.as_slice(),
     }
 }

@@ -23,7 +23,7 @@ pub use just_config::{Config, Subcommand};
 pub use just_exec::Error;
 pub use just_lang::LaidJustfile;
 pub use just_path_text::{Environ, NoMemory, Seq, Text};
-pub use kind::{Kind, is_choice, is_new, is_placed, kind_of, reads_justfile, words_of};
+pub use kind::{Kind, is_choice, is_new, is_placed, is_vectors, kind_of, reads_justfile, words_of};
 pub use laying::laid_of_sources;
 pub use printed::Printed;
 pub use printing::{alone, prints};

@@ -109,7 +109,8 @@ fn prints_of(
         | Subcommand::Evaluate(_)
         | Subcommand::Fmt(_)
         | Subcommand::Init(_)
-        | Subcommand::Request(_) => unreachable!(),
+        | Subcommand::Request(_)
+        | Subcommand::Vectors(_) => unreachable!(),
     }
 }
 

@@ -21,6 +21,7 @@ name_of (command.Show ws) = codes "show"
 name_of (command.Summary ws) = codes "summary"
 name_of (command.Usage ws) = codes "usage"
 name_of (command.Variables ws) = codes "variables"
+name_of (command.Vectors ws) = codes "vectors"
 
 -- the words that are to be a module path
 abbrev pub path_words : Subcommand → Option (List (List ℕ))
@@ -60,4 +61,5 @@ surplus_overrides (command.Init ws) os = os
 surplus_overrides (command.Request ws) os = os
 surplus_overrides (command.Summary ws) os = os
 surplus_overrides (command.Variables ws) os = os
+surplus_overrides (command.Vectors ws) os = os
 surplus_overrides _ os = []

@@ -27,6 +27,7 @@ pub(crate) fn name_of(subcommand: &Subcommand) -> &'static str
         Subcommand::Summary(_) => "summary",
         Subcommand::Usage(_) => "usage",
         Subcommand::Variables(_) => "variables",
+        Subcommand::Vectors(_) => "vectors",
     }
 }
 
@@ -75,7 +76,8 @@ pub(crate) fn surplus_arguments<'a>(subcommand: &Subcommand, arguments: &'a [Tex
         | Subcommand::Init(_)
         | Subcommand::Request(_)
         | Subcommand::Summary(_)
-        | Subcommand::Variables(_) => arguments,
+        | Subcommand::Variables(_)
+        | Subcommand::Vectors(_) => arguments,
     }
 }
 
@@ -111,6 +113,7 @@ pub(crate) fn surplus_overrides<'a>(
         | Subcommand::Init(_)
         | Subcommand::Request(_)
         | Subcommand::Summary(_)
-        | Subcommand::Variables(_) => overrides,
+        | Subcommand::Variables(_)
+        | Subcommand::Vectors(_) => overrides,
     }
 }

@@ -1,7 +1,7 @@
 //! The text of the help.
 
 /// The text of the help: how the program is called, then a line for each option and command, in the order of the table, with its names, the
-/// short one last. It tells neither `--help` nor `--version`.
+/// short one last. It tells none of `--help`, `--version` and `--vectors`.
 pub const HELP: &str = "\
 usage: just [OPTIONS] [ARGUMENTS]...\n\
 \x20   --allow-missing\n\

@@ -49,7 +49,8 @@ subcommand_named name ws =
     else (if bytes_eq name (codes "summary") then Some (command.Summary ws)
     else (if bytes_eq name (codes "usage") then Some (command.Usage ws)
     else (if bytes_eq name (codes "variables") then Some (command.Variables ws)
-    else None))))))))))))))
+    else (if bytes_eq name (codes "vectors") then Some (command.Vectors ws)
+    else None)))))))))))))))
 
 -- the command that is given, with its words
 abbrev pub subcommand_in : List Occurrence → Option Subcommand

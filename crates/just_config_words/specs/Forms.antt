@@ -2,7 +2,7 @@
 use Rattle.std.specs.Prelude.{ℕ, Bool, true, not, ◌||◌, List, [], ◌∷◌, map, codes, bytes_eq, ◌&&◌, ◌^◌, ◌-◌}
 use Rattle.std.specs.Char.{to_ascii_lowercase}
 use Rattle.just_config_words.specs.declared.entry.Form.{Form}
-use Rattle.just_config_words.specs.declared.entry.Form.TheVariants.{Text, Switch, LooseSwitch, Count, AliasStyle, DumpFormat, EvaluateFormat, Indentation, Jobs}
+use Rattle.just_config_words.specs.declared.entry.Form.TheVariants.{Text, Switch, LooseSwitch, Count, AliasStyle, DumpFormat, EvaluateFormat, Indentation, Jobs, Vectors}
 use Rattle.just_lang_read.specs.Decimal.{decimal, is_number_within}
 
 -- whether a text is in the form
@@ -16,6 +16,7 @@ is_in_form DumpFormat t = bytes_eq t (codes "just")
 is_in_form EvaluateFormat t = bytes_eq t (codes "just") || bytes_eq t (codes "shell")
 is_in_form Indentation t = bytes_eq t (codes "tab") || is_number_within 1 16 (decimal t)
 is_in_form Jobs t = is_number_within 1 (2 ^ 64 - 1) (decimal t)
+is_in_form Vectors t = is_number_within 1 20000 (decimal t)
 
 abbrev pub small_letters : List ℕ → List ℕ
 small_letters t = map to_ascii_lowercase t

@@ -146,6 +146,7 @@ commands =
     ∷ row (codes "summary") None None kind.Command values.Nothing form.Text None
     ∷ row (codes "usage") None None kind.Command values.AtLeastOne form.Text None
     ∷ row (codes "variables") None None kind.Command values.Nothing form.Text None
+    ∷ row (codes "vectors") None None kind.Command values.One form.Vectors None
     ∷ []
 
 -- what asks for the help or the version

@@ -64,6 +64,8 @@ pub enum Form {
     Indentation,
     /// A decimal number from 1 to 18,446,744,073,709,551,615.
     Jobs,
+    /// A decimal number from 1 to 20,000.
+    Vectors,
 }
 
 /// An option, as the table has it.

@@ -24,6 +24,7 @@ impl Form {
             Form::EvaluateFormat => matches!(text, "just" | "shell"),
             Form::Indentation => text == "tab" || is_within(text, 1, 16),
             Form::Jobs => is_within(text, 1, u64::MAX),
+            Form::Vectors => is_within(text, 1, 20_000),
         }
     }
 

@@ -37,6 +37,8 @@ pub enum Subcommand {
     Usage(Seq<Text>),
     /// `--variables`.
     Variables(Seq<Text>),
+    /// `--vectors`.
+    Vectors(Seq<Text>),
 }
 
 impl Drop for Subcommand {
@@ -56,7 +58,8 @@ impl Drop for Subcommand {
             | Subcommand::Show(_)
             | Subcommand::Summary(_)
             | Subcommand::Usage(_)
-            | Subcommand::Variables(_) => {}
+            | Subcommand::Variables(_)
+            | Subcommand::Vectors(_) => {}
         }
     }
 }
@@ -81,6 +84,7 @@ fn subcommand_named(name: &str, words: Seq<Text>) -> Option<Subcommand>
         "summary" => Some(Subcommand::Summary(words)),
         "usage" => Some(Subcommand::Usage(words)),
         "variables" => Some(Subcommand::Variables(words)),
+        "vectors" => Some(Subcommand::Vectors(words)),
         _ => None,
     }
 }

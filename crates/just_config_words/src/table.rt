@@ -34,7 +34,7 @@ macro_rules! row {
 
 /// Each option: its long names, its short one, what it is, what it takes, in which form, and its variable.
 #[rattlefmt::skip]
-static ROWS: [Row; 69] = [
+static ROWS: [Row; 70] = [
     // Flags.
     row!("allow-missing", None, None, Flag, Nothing, Switch, Some("JUST_ALLOW_MISSING")),
     row!("check", None, None, Flag, Nothing, Switch, None),
@@ -99,6 +99,7 @@ static ROWS: [Row; 69] = [
     row!("summary", None, None, Command, Nothing, Text, None),
     row!("usage", None, None, Command, AtLeastOne, Text, None),
     row!("variables", None, None, Command, Nothing, Text, None),
+    row!("vectors", None, None, Command, One, Vectors, None),
     // Questions.
     row!("help", None, Some('h'), Help, Nothing, Text, None),
     row!("version", None, Some('V'), Version, Nothing, Text, None),

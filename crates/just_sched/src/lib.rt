@@ -23,8 +23,8 @@ pub use just_sched_book::{
     Book, Driven, HeldBody, Named, Naming, Next, OpenBody, Seat, WaitedBody,
 };
 pub use just_sched_history::{
-    CachePlan, Command, Event, Idle, NodeState, Outcome, Plan, PlanNode, Reason, Step, Verdict,
-    Work, entry_path_of, last_status, reason_of, status_count,
+    CachePlan, Command, Event, Idle, NodeState, Outcome, Plan, PlanNode, Reason, Step, Tables,
+    Verdict, Work, entry_path_of, last_status, reason_of, status_count,
 };
 pub use just_sched_lines::write_history;
 pub use semaphore::{Guard, Semaphore};

@@ -12,4 +12,5 @@ pub mod OpenBodies
 pub mod Runners
 pub mod Settling
 pub mod Summing
+pub mod Tabled
 pub mod Tallies

@@ -4,3 +4,4 @@ pub mod Codes
 pub mod Gains
 pub mod MoveAnswers
 pub mod Nowhere
+pub mod Tabled

@@ -5,6 +5,7 @@ ghost use Rattle.std.specs.Int.NonZero.{non_zero_u64_get};
 ghost use Rattle.std.proofs.Props.{props};
 ghost use Rattle.just_host_record.specs.Record.{children};
 ghost use Rattle.just_sched_book.specs.Account.{IsAccount};
+ghost use Rattle.just_sched_book.specs.Tabled.{TablesTell};
 ghost use Rattle.just_sched_history.specs.CacheRule.{GoesByCacheRule};
 ghost use Rattle.just_sched_history.specs.Cached.{may_begin, class_is_open, is_cached, are_one_class};
 ghost use Rattle.just_sched_book.specs.Codes.{plan_code};
@@ -168,6 +169,13 @@ impl<H: Host + Drop, P: Naming> Book<H, P> {
         ensures { IsState P.start.plan.nodes P.start.plan.invocations self.now.history.items node result }
     {
         self.tables.state(&self.plan, self.history.as_slice(), node)
+    }
+
+    /// What the book keeps of its history in tables: they tell the states of all nodes, and no history is read again.
+    pub fn tables(&self) -> &Tables
+        ensures { ∥ TablesTell P.start.plan.nodes P.start.plan.invocations self.now.history.items result.now ∥₁ }
+    {
+        &self.tables
     }
 
     /// Shows that the units of a seat with every part are the number of running bodies. It changes nothing.

@@ -297,13 +297,26 @@ fn effects(reader: &mut Reader, files: Option<&Value>) -> Vec<(Text, Option<Thin
     effects
 }
 
-/// The bytes of a text; none where there is none.
-fn bytes(reader: &mut Reader, text: Option<&Value>) -> Seq<u8> {
-    let text = match text {
-        Some(text) => reader.text(text),
-        None => "",
-    };
-    reader.bytes(text)
+/// The bytes of a value: of a text its own, of an object those of its digits.
+fn bytes_told(reader: &mut Reader, told: &Value) -> Seq<u8> {
+    match told.get("hex") {
+        Some(digits) => {
+            let digits = reader.text(digits);
+            reader.bytes_of_digits(digits)
+        }
+        None => {
+            let text = reader.text(told);
+            reader.bytes(text)
+        }
+    }
+}
+
+/// The bytes of a value; none where there is none.
+fn bytes(reader: &mut Reader, told: Option<&Value>) -> Seq<u8> {
+    match told {
+        Some(told) => bytes_told(reader, told),
+        None => reader.bytes(""),
+    }
 }
 
 /// Adds the ending of a child's word: the word, its status, what it does to files, and what it prints, of which the last two may be left out.

@@ -6,17 +6,18 @@
 //! What a row gives: `files` (what stands at a path: a text; null for a folder; `{"hex": DIGITS}` for a file of these bytes; `{"link": TARGET}`;
 //! nothing else is there but the folders above), `current` (the current
 //! folder), `environ` (a value by its name), `words`, `endings` (for a child's word its status: a code, `"signal:N"` or
-//! `"unknown"`; and, where it changes files, the texts by their paths, or null where one goes; and what it prints, where that is captured), `answers` (the lines that a
+//! `"unknown"`; and, where it changes files, the texts by their paths, or null where one goes; and what it prints, a text or such digits, where that is captured), `answers` (the lines that a
 //! prompt reads), `input` (the text of standard input, empty where it is left out), and `fails` (the numbers of the calls of the host that fail) or
 //! `fault` (the name of a call: the first one of that name fails, and no other). What it wants: `children` (`program`,
-//! `arguments`, `folder`, `script` of each), `prompts`, `stderr`, `code`, `history` (the events, as they are shown for
-//! developers), `after` (the files behind the run), `failed` (how many calls fail), `stdout`, `changes` (of each child what
+//! `arguments`, `folder`, `script` of each), `prompts`, `stderr`, `code`, `history` (its text, a line for each
+//! event), `after` (the files behind the run), `failed` (how many calls fail), `stdout`, `changes` (of each child what
 //! changes in its environment, in order: `NAME=TEXT`, or `NAME` where it is taken out), and `captured` (of each child whose output is
 //! captured its `program`, `arguments`, `folder`, and its `input`). `fails`, `fault` and what stands
 //! from `history` on may be left out: without `after` the files are the same behind the run as before it, without `failed`
 //! as many calls fail as `fails` lists, and without `stdout` nothing is printed there. A row may have a `name`, which isn't read.
 //!
-//! `texts.jsonl` and `cleans.jsonl` have commands and what they print or remove, `language.jsonl` runs: a second reading of what is asked, made apart from this program.
+//! `texts.jsonl` and `cleans.jsonl` have commands and what they print or remove, `language.jsonl` and `histories.jsonl` runs: a second reading of what is asked, made apart from this program.
+//! `vectors.jsonl` has runs of so many recipes over a host in memory of their own.
 //!
 //! The functions here promise nothing beyond safety: what they answer is seen by comparing.
 #![tactic(auto)]

@@ -1,11 +1,20 @@
 //! What a run shows: how it ended, what its host's record tells, and the files behind it.
 
 use crate::parts::Page;
-use just_cli::{Failure, Report};
+use just_cli::{Event, Failure, Report};
 use just_host::{Entry, MemHost, Script, Spec, Stream, Tree};
-use just_path_text::Text;
+use just_path_text::{NoMemory, Text};
+use just_sched_lines::write_history;
 use rows_common::Wrong;
 use std::alloc::{AllocError, Global};
+
+/// Adds the text of a history.
+fn push_history(page: &mut Page, history: &[Event]) {
+    match write_history(page.alloc, history) {
+        Ok(text) => page.push(text.as_str()),
+        Err(NoMemory) => page.fail(Wrong::NoMemory),
+    }
+}
 
 /// Adds the code of a run, and its history, where that is asked for. It promises nothing beyond safety.
 pub(crate) fn push_end(page: &mut Page, ended: Result<Report, Failure>, with_history: bool) {
@@ -17,7 +26,7 @@ pub(crate) fn push_end(page: &mut Page, ended: Result<Report, Failure>, with_his
     page.push_shown(&code);
     if with_history {
         page.push(" and history ");
-        page.push_shown(&history);
+        push_history(page, history);
     }
     drop(ended);
 }

@@ -197,5 +197,6 @@ fn command(subcommand: &Subcommand) -> (&'static str, &Seq<Text>) {
         Subcommand::Summary(words) => ("summary", words),
         Subcommand::Usage(words) => ("usage", words),
         Subcommand::Variables(words) => ("variables", words),
+        Subcommand::Vectors(words) => ("vectors", words),
     }
 }

@@ -45,6 +45,11 @@ fn tell<H: Host + Drop, P: Naming>(
     }
 }
 
+/// Whether a book's tables are as long as its plan.
+fn is_sized<H: Host + Drop, P: Naming>(desk: &Desk<H, P>) -> bool {
+    desk.book.tables().size == desk.book.plan.nodes.len()
+}
+
 /// A word for why there is nothing to do now.
 fn idle_word(idle: Idle) -> &'static str {
     match idle {
@@ -173,6 +178,9 @@ fn play<H: Host + Drop, P: Naming>(
     };
     let mut seat = seat;
     let mut desk = Desk::new(book);
+    if !is_sized(&desk) {
+        panic!(rt; "tables of another plan");
+    }
     tell(rt, told, "begun", &desk);
     make_moves(rt, &mut desk, &mut seat, told, count);
     desk.audit(&mut seat);
@@ -264,6 +272,18 @@ fn states_of_a_diamond(rt: HostRuntime) -> Result<(), NoMemory> {
     let want =
         "begun 0: Ready Waiting Waiting Waiting\nopened 1: Open Waiting Waiting Waiting\nnothing 1: Open Waiting Waiting Waiting\nfinished 0: Finished Ready Ready Waiting\nopened 1: Finished Open Ready Waiting\nopened 2: Finished Open Open Waiting\nnothing 2: Finished Open Open Waiting\nfinished 1: Finished Open Finished Waiting\nfinished 0: Finished Failed Finished Waiting\n18 Some(Code(0)) Some(Code(3)) Failed(1)\n";
     plays(&rt, alloc, (DIAMOND, "p"), failing(alloc)?, 2, 2, want)
+}
+
+/// A diamond whose nodes come one behind the other.
+const IN_TURN: &str = "d: b c\n\techo d\nb: a\n\techo b\nc: a\n\techo c\na:\n\techo a\n";
+
+/// The states of that diamond's nodes as a book is opened, and behind the end of its first body.
+#[test]
+fn row_states_of_a_diamond_in_turn(rt: HostRuntime) -> Result<(), NoMemory> {
+    let alloc = rt.alloc();
+    let want =
+        "begun 0: Ready Waiting Waiting Waiting\nopened 1: Open Waiting Waiting Waiting\nnothing 1: Open Waiting Waiting Waiting\nfinished 0: Finished Ready Waiting Waiting\n6 Some(Code(0)) None Well\n";
+    plays(&rt, alloc, (IN_TURN, "d"), memory(alloc)?, 2, 1, want)
 }
 
 /// Two bodies of one class, which read the file `in` and make the file `out`.

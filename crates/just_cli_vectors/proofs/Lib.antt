@@ -1,0 +1,4 @@
+-- The lemmas.
+mod Events
+mod Ranges
+mod Reported
