@@ -36,5 +36,6 @@ invoke-requires g c =
 
 pub returns-in-Invoke : goal.returns-in-Invoke
 returns-in-Invoke g c = does_so c.args.other (no_run.Invoke c.in-Invoke.child) c.args.quiet _ _ _ c.in-Invoke.is c.invoke.ensures
+
 pub returns-in-Vectors : goal.returns-in-Vectors
 returns-in-Vectors g c = does_so c.args.other (no_run.Vectors c.in-Vectors.count) c.args.quiet _ _ _ c.in-Vectors.is c.show_vectors.ensures
