@@ -15,7 +15,7 @@ pub fn dry_runs_run_no_child()
     ensures { RunsNoChild }
 {}
 
-/// Words that are chosen ask for one run: what is asked behind the project that a chooser was fed is what a run of those words asks from its place on. It does
+/// Words that are chosen ask for one run: what they ask for behind the project that a chooser was fed is what a run of those words asks for in its place. It does
 /// nothing; its contract is a law.
 pub fn choices_are_runs()
     ensures { ChoicesAreRuns }
