@@ -9,6 +9,7 @@ pub mod ChosenRuns
 pub mod Cleaning
 pub mod Commands
 pub mod Dry
+pub mod DryPlans
 pub mod Exit
 pub mod Invoked
 pub mod NewPath
