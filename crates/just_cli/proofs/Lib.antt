@@ -14,6 +14,7 @@ pub mod Climbing
 pub mod Commanding
 pub mod DryChain
 pub mod DryLaws
+pub mod DryRecord
 pub mod DryWork
 pub mod Ending
 pub mod Falls
