@@ -4,11 +4,11 @@ use Rattle.std.specs.Prelude.{◌&&◌, ◌||◌, not, if◌then◌else◌, zip,
 use Rattle.std.specs.Int.NonZero.{non_zero_u64_get}
 use Rattle.std.specs.List.{Contains}
 use Rattle.just_host_record.specs.World.{World}
-use Rattle.just_dotenv.specs.Meaning.{Pairs}
 use Rattle.just_lang_types.specs.declared.node.Node.{Node}
 use Rattle.just_lang_types.specs.declared.project.Justfile.{Justfile}
 use Rattle.just_lang_types.specs.declared.scope.DotenvOf.{DotenvOf}
 use Rattle.just_lang_types.specs.Modules.{settings_of, modules_of}
+use Rattle.just_lang_layout.specs.Paths.{Pairs}
 use Rattle.just_config.specs.declared.config.Config.{Config}
 use Rattle.just_env.specs.declared.ask.DotenvAsk.{DotenvAsk}
 use Rattle.just_env.specs.declared.ask.Sources.{Sources}

@@ -35,10 +35,10 @@ use Rattle.just_cli.specs.Acts.{Act, AreActs, Behind, BeginsBehind}
 use Rattle.just_cli.specs.Answered.{asked_by, RefusedFor}
 use Rattle.just_cli.specs.Asked.{Asked, as_reply, Asks, AsksAs, AsksBy, AsksAt, Begins, BeginsAs, Decides, EnvironGiven, Searches, Serves}
 use Rattle.just_cli.specs.Childless.{AreFolders}
-use Rattle.just_cli.specs.Dry.{IsPlanTold}
+use Rattle.just_cli.specs.Dry.{IsPlanTold, IsPlanUntold}
 use Rattle.just_cli.specs.DryRecords.{IsDryRead, AskDry, runs_nothing, DryRunsRunNothing}
 use Rattle.just_cli.specs.Preparing.{LeavesActs, EndsActs}
-use Rattle.just_cli.specs.Printing.{IsPrinted as IsTextPrinted, IsUnprintedBy, TellsError, told_line, told_beside}
+use Rattle.just_cli.specs.Printing.{IsPlanless, IsPrinted as IsTextPrinted, IsUnprinted, IsUnprintedBy, TellsError, told_line, told_beside}
 use Rattle.just_cli.specs.Record.{AreRefusals, EndsBehind, EndsUnopened, Gains, IsTold}
 use Rattle.just_cli.specs.Replies.{Reply}
 use Rattle.just_cli.specs.Request.{ArePassed}
@@ -101,6 +101,7 @@ acts_still acts es (AreActs.an_act (Act.uncaptured program) some rest are) folde
 listing_still : (e : Entry) → is_refused_listing e ≡ true → runs_nothing e ≡ true
 listing_still (entry.Missed path m) is = refl
 listing_still (entry.Failed c) is = refl
+listing_still (entry.Strayed a b) is = refl
 listing_still (entry.Printed stream text) is = refl
 listing_still (entry.Made folder) is = refl
 listing_still (entry.Asked a b) is = is
@@ -111,12 +112,12 @@ listing_still (entry.Saved a) is = is
 listing_still (entry.Started a b) is = is
 listing_still (entry.Ended a b) is = is
 listing_still (entry.Captured a b c d) is = is
-listing_still (entry.Strayed a b) is = is
 listing_still (entry.Signalled a) is = is
 
 refusal_still : (e : Entry) → (is_missed e || is_failed e) ≡ true → runs_nothing e ≡ true
 refusal_still (entry.Missed path m) is = refl
 refusal_still (entry.Failed c) is = refl
+refusal_still (entry.Strayed a b) is = refl
 refusal_still (entry.Printed stream text) is = refl
 refusal_still (entry.Made folder) is = refl
 refusal_still (entry.Asked a b) is = is
@@ -127,7 +128,6 @@ refusal_still (entry.Saved a) is = is
 refusal_still (entry.Started a b) is = is
 refusal_still (entry.Ended a b) is = is
 refusal_still (entry.Captured a b c d) is = is
-refusal_still (entry.Strayed a b) is = is
 refusal_still (entry.Signalled a) is = is
 
 listings_still : (es : List Entry) → AllByRecursion (λ e. is_refused_listing e ≡ true) es → AreStill es
@@ -183,24 +183,30 @@ tells_still xs a b r (Tells.cut_short e cut world is) =
     (cut.front ++ refused_in (call_at [] e), cut.grew, still_append cut.front (refused_in (call_at [] e)) (still_front cut.front (cut.next ∷ cut.behind) (subst (λ l. AreStill l) cut.cut (told_still xs))) (call_still (call_at [] e)))
 
 module _ (quiet : Bool) (a b : Moment) where
+  untold_still : (p : Plan) (e : Error) → IsPlanUntold p quiet a b e → Stays a b
+  untold_still p e (now, tells, told, world) = stays_then a now b (tells_still p.nodes a now (Err e) tells) (tells_error_still quiet e now b told)
+
   plan_still : (p : Plan) (r : Result Report Failure) → IsPlanTold p quiet a b r → Stays a b
   plan_still p (Ok x) k = tells_still p.nodes a b (Ok tt) k.told.2
   plan_still p (Err f) k =
-      let (planless, now, tells, told, world) = k.untold in
-      stays_then a now b (tells_still p.nodes a now (Err f.error) tells) (tells_error_still quiet f.error now b told)
+      let both : IsPlanless f × IsPlanUntold p quiet a b f.error = k.untold in
+      let (planless, untold) = both in untold_still p f.error untold
 
   -- a text that is printed, or isn't
   unprinted_still : (p : Printed) (e : Error) (now : List Entry) → IsUnprintedBy p quiet e a.entries now → (es : List Entry) × (now ≡ a.entries ++ es) × AreStill es
   unprinted_still p e now (IsUnprintedBy.no_text why grew) = (refused_in (call_at [] e), grew, call_still (call_at [] e))
   unprinted_still p e now (IsUnprintedBy.no_line line told loud why grew) = (entry.Printed stream.Out p.text ∷ refused_in (call_at [] e), grew, (refl, call_still (call_at [] e)))
 
+  unshown_still : (p : Printed) (e : Error) → IsUnprinted p quiet e a.entries b.entries → Stays a b
+  unshown_still p e (now, by, told, behind, is) =
+      let (es, grew, still) = unprinted_still p e now by in
+      (es ++ told, behind ∙ (ap (λ l. l ++ told) grew ∙ append_assoc a.entries es told), still_append es told still (error_still quiet e told is))
+
   text_still : (p : Printed) (r : Result Report Failure) → IsTextPrinted p quiet a b r → Stays a b
   text_still p (Ok x) k = (entry.Printed stream.Out p.text ∷ told_beside quiet p.told, k.printed.1, (refl, beside_still quiet p.told))
   text_still p (Err f) k =
-      let (planless, now, by, told) = k.unprinted in
-      let (es, grew, still) = unprinted_still p f.error now by in
-      let (more, behind, is) = told in
-      (es ++ more, behind ∙ (ap (λ l. l ++ more) grew ∙ append_assoc a.entries es more), still_append es more still (error_still quiet f.error more is))
+      let both : IsPlanless f × IsUnprinted p quiet f.error a.entries b.entries = k.unprinted in
+      let (planless, unprinted) = both in unshown_still p f.error unprinted
 
 -- ---- what is asked for
 

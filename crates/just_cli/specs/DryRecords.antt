@@ -27,6 +27,7 @@ AskDry words told = (environ : Environ) (m : Read) → EnvironGiven told (Ok env
 abbrev pub runs_nothing : Entry → Bool
 runs_nothing (entry.Missed path m) = true
 runs_nothing (entry.Failed c) = true
+runs_nothing (entry.Strayed child other) = true
 runs_nothing (entry.Printed stream text) = true
 runs_nothing (entry.Made folder) = true
 runs_nothing (entry.Asked prompt answer) = false
@@ -37,7 +38,6 @@ runs_nothing (entry.Saved path) = false
 runs_nothing (entry.Started child spec) = false
 runs_nothing (entry.Ended child status) = false
 runs_nothing (entry.Captured spec input status output) = false
-runs_nothing (entry.Strayed child other) = false
 runs_nothing (entry.Signalled signal) = false
 
 -- However words end that ask for a dry run, they leave no other entry.
