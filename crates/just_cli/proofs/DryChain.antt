@@ -2,7 +2,7 @@
 use Rattle.std.proofs.Common.{◌≡◌, ◌++◌, ℕ, suc, Bool, true, false, true≢false, List, [], ◌∷◌, map, Option, Some, None, Result, Ok, Err, refl, sym, ◌∙◌, ap, subst, arith}
 use Rattle.std.specs.Prelude.{◌&&◌, ◌||◌, not, if◌then◌else◌, zip, option_map}
 use Rattle.std.specs.Int.NonZero.{non_zero_u64_get}
-use Rattle.std.specs.List.{Contains}
+use Rattle.std.specs.List.{AllByRecursion, Contains}
 use Rattle.just_host_record.specs.World.{World}
 use Rattle.just_lang_types.specs.declared.node.Node.{Node}
 use Rattle.just_lang_types.specs.declared.project.Justfile.{Justfile}
@@ -18,7 +18,6 @@ use Rattle.just_env.specs.declared.env_error.EnvError.TheVariants as env_error
 use Rattle.just_env.specs.Asked.{is_any, commands_of, has_several, has_flag, has_given, sources_of}
 use Rattle.just_env.specs.Captures.{Capture, told_behind}
 use Rattle.just_env.specs.Loads.{LoadsFrom, LoadsOwn, LoadsModules, LoadsProject, Following, following, folder_of, IsModuleOf}
-use Rattle.just_env.proofs.Ends.{AreWithin}
 use Rattle.just_exec_work.specs.declared.run_flags.RunFlags.{RunFlags}
 use Rattle.just_exec.specs.declared.error.Error.{Error}
 use Rattle.just_exec.specs.declared.node_plan.NodePlan.{NodePlan}
@@ -37,6 +36,10 @@ use Rattle.just_cli.specs.Request.{LoadsPairs, RepliesTo}
 use Rattle.just_cli.proofs.DryWork.{plans_so, zipped}
 
 -- ---- modules of a project
+
+-- each of these is one
+abbrev AreWithin : Justfile → Following → Type 0
+AreWithin root pending = AllByRecursion (λ (p : Justfile × Pairs). IsModuleOf root p.0) pending
 
 within_append : (root : Justfile) (ps qs : Following) → AreWithin root ps → AreWithin root qs → AreWithin root (ps ++ qs)
 within_append root [] qs g h = h

@@ -198,7 +198,7 @@ module _ (quiet : Bool) (a b : Moment) where
   unprinted_still p e now (IsUnprintedBy.no_line line told loud why grew) = (entry.Printed stream.Out p.text ∷ refused_in (call_at [] e), grew, (refl, call_still (call_at [] e)))
 
   unshown_still : (p : Printed) (e : Error) → IsUnprinted p quiet e a.entries b.entries → Stays a b
-  unshown_still p e (now, by, told, behind, is) =
+  unshown_still p e (now, by, (told, behind, is)) =
       let (es, grew, still) = unprinted_still p e now by in
       (es ++ told, behind ∙ (ap (λ l. l ++ told) grew ∙ append_assoc a.entries es told), still_append es told still (error_still quiet e told is))
 
