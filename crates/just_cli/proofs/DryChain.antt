@@ -1,5 +1,5 @@
 -- Where no dotenv command is set, a dry run plans what is planned for a run.
-use Rattle.std.proofs.Common.{◌≡◌, ◌++◌, ℕ, suc, Bool, true, false, true≢false, List, [], ◌∷◌, map, Option, Some, None, Result, Ok, Err, refl, sym, ◌∙◌, ap, subst, arith}
+use Rattle.std.proofs.Common.{◌≡◌, ◌++◌, ℕ, suc, Bool, true, false, true≢false, List, [], ◌∷◌, map, Option, Result, Ok, Err, refl, sym, ◌∙◌, ap, subst, arith}
 use Rattle.std.specs.Prelude.{◌&&◌, ◌||◌, not, if◌then◌else◌, zip, option_map}
 use Rattle.std.specs.Int.NonZero.{non_zero_u64_get}
 use Rattle.std.specs.List.{AllByRecursion, Contains}
@@ -23,15 +23,15 @@ use Rattle.just_exec.specs.declared.error.Error.{Error}
 use Rattle.just_exec.specs.declared.node_plan.NodePlan.{NodePlan}
 use Rattle.just_cli_plan.specs.declared.wanted.Wanted.{Wanted}
 use Rattle.just_cli_plan.specs.Planned.{messages_of}
-use Rattle.just_cli_plan.specs.Request.{ProjectRequest, LoadedRequest, ScopesRequest, KeysRequest, ClosureRequest, Outline, InvokesKeys, ClosesKeys, MakesPlan, PlansKeys}
+use Rattle.just_cli_plan.specs.Request.{LoadedRequest, ScopesRequest, KeysRequest, ClosureRequest, Outline, ClosesKeys, MakesPlan, PlansKeys}
 use Rattle.just_cli_plan.specs.Steps.{Then, stops, goes_on}
-use Rattle.just_cli_plan.proofs.Steps.{refused_or_found, same_found}
+use Rattle.just_cli_plan.proofs.Steps.{refused_or_found}
 use Rattle.just_cli_texts.specs.declared.printed.Printed.{Printed}
 use Rattle.just_cli_texts.specs.Defaults.{listed_by_default}
 use Rattle.just_cli_texts.specs.Laid.{LaidRequest, project_with}
 use Rattle.just_cli.specs.Acts.{Act, Behind}
 use Rattle.just_cli.specs.DryPlans.{ask_so, flags_so, wanted_so, request_so, HasNoCommands, unasked, unasked_outline, DryPlansAgree}
-use Rattle.just_cli.specs.Replies.{Reply, as_list, as_plan, Replies, RepliesLoaded}
+use Rattle.just_cli.specs.Replies.{Reply, as_list, Replies, RepliesLoaded}
 use Rattle.just_cli.specs.Request.{LoadsPairs, RepliesTo}
 use Rattle.just_cli.proofs.DryWork.{plans_so, zipped}
 

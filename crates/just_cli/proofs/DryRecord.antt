@@ -33,16 +33,16 @@ use Rattle.just_cli.specs.declared.ended.Failure.{Failure}
 use Rattle.just_cli.specs.declared.ended.Report.{Report}
 use Rattle.just_cli.specs.Acts.{Act, AreActs, Behind, BeginsBehind}
 use Rattle.just_cli.specs.Answered.{asked_by, RefusedFor}
-use Rattle.just_cli.specs.Asked.{Asked, as_reply, Asks, AsksAs, AsksBy, AsksAt, Begins, BeginsAs, Decides, EnvironGiven, Searches, Serves}
+use Rattle.just_cli.specs.Asked.{Asked, as_reply, Asks, AsksAs, AsksBy, AsksAt, Begins, BeginsAs, Decides, EnvironGiven, Serves}
 use Rattle.just_cli.specs.Childless.{AreFolders}
 use Rattle.just_cli.specs.Dry.{IsPlanTold, IsPlanUntold}
 use Rattle.just_cli.specs.DryRecords.{IsDryRead, AskDry, runs_nothing, DryRunsRunNothing}
 use Rattle.just_cli.specs.Preparing.{LeavesActs, EndsActs}
 use Rattle.just_cli.specs.Printing.{IsPlanless, IsPrinted as IsTextPrinted, IsUnprinted, IsUnprintedBy, TellsError, told_line, told_beside}
-use Rattle.just_cli.specs.Record.{AreRefusals, EndsBehind, EndsUnopened, Gains, IsTold}
+use Rattle.just_cli.specs.Record.{AreRefusals, EndsBehind, Gains, IsTold}
 use Rattle.just_cli.specs.Replies.{Reply}
 use Rattle.just_cli.specs.Request.{ArePassed}
-use Rattle.just_cli.specs.Run.{Ends, IsEnded, EndsCleared}
+use Rattle.just_cli.specs.Run.{Ends, EndsCleared}
 use Rattle.just_cli.specs.Words.{WordsRequest, ArgumentsRequest, ConfigRequest, LocatedRequest}
 use Rattle.just_cli.proofs.FolderActs.{none_made, made_both, runs_no_child}
 
