@@ -115,10 +115,12 @@ module _ (dry : Bool) where
   makes_so c o (plans, made, is) =
       let found = plans_so dry c.wanted.flags c.wanted.cache_folder c.modules c.scopes c.closure plans made in
       let others : List NodePlan = found.0 in
-      let same : map unasked others ≡ map unasked plans = found.2 in
-      (outline_with c (zip c.closure.nodes others), (others, found.1, refl),
-      ap (λ (ns : List (Node × NodePlan)). outline_with c ns) (zipped c.closure.nodes others ∙ (ap (λ (xs : List NodePlan). zip c.closure.nodes xs) same ∙ sym (zipped c.closure.nodes plans)))
-      ∙ sym (ap (λ (x : Outline). unasked_outline x) is))
+      let same : map unasked others ≡ map unasked plans = found.2 in (
+        outline_with c (zip c.closure.nodes others),
+        (others, found.1, refl),
+        ap (λ (ns : List (Node × NodePlan)). outline_with c ns) (zipped c.closure.nodes others ∙ (ap (λ (xs : List NodePlan). zip c.closure.nodes xs) same ∙ sym (zipped c.closure.nodes plans)))
+            ∙ sym (ap (λ (x : Outline). unasked_outline x) is),
+      )
 
   closes_so : (k : KeysRequest) (o : Outline) → Then ClosesKeys MakesPlan k (Ok o) → (e : Outline) × Then ClosesKeys MakesPlan (keys_so k) (Ok e) × (unasked_outline e ≡ unasked_outline o)
   closes_so k o (stops f refused is) = absurd (refused_or_found f o (sym is))
