@@ -14,7 +14,7 @@ use Rattle.just_print_lists.specs.Groups.{is_nil}
 use Rattle.just_print_commands.specs.Projects.{Parts}
 use Rattle.just_exec.specs.declared.error.Error.{Error}
 use Rattle.just_exec.specs.declared.error.Error.TheVariants as error
-use Rattle.just_cli_texts.specs.Choices.{is_choosable, spaced_path, AreChoices, fed, fed_unless_none, Feeds}
+use Rattle.just_cli_texts.specs.Choices.{is_choosable, spaced_path, choices_of, AreChoices, fed, fed_unless_none, Feeds}
 use Rattle.just_cli_texts.specs.Laid.{LaidSources, ArePartsOf}
 
 -- the lines of those of some recipes of a module that can be chosen
@@ -46,6 +46,13 @@ more_lines lines_of ms i m old new all less here before added =
     ap (λ (l : List (List ℕ)). l ++ others) added
     ∙ (append_assoc old (lines_of m.now) others
     ∙ (ap (λ (l : List (Bor ListedModule)). old ++ flat_map lines_of (map (λ (x : Bor ListedModule). x.now) l)) (sym left) ∙ before))
+
+-- the lines of modules, one module at a time
+abbrev pub lines_of_modules : Config → List Justfile → List (Bor ListedModule) → List (List ℕ)
+lines_of_modules c js ms = flat_map (choices_of c js) (map (λ (m : Bor ListedModule). m.now) ms)
+
+pub one_module : (c : Config) (js : List Justfile) (m : Bor ListedModule) (ms : List (Bor ListedModule)) → lines_of_modules c js (m ∷ ms) ≡ choices_of c js m.now ++ lines_of_modules c js ms
+one_module c js m ms = refl
 
 -- some lines are fed, and none are refused
 some_fed : (lines : List (List ℕ)) → is_nil lines ≡ false → Ok (fed lines) ≡ fed_unless_none lines

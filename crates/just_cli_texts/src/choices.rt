@@ -87,9 +87,7 @@ fn needs_none(recipe: Option<&Recipe>) -> bool
 fn is_of_one(groups: &[Text], own: &[Text]) -> bool
     ensures { result ≡ list_any (λ g. has_name g own.now) groups.now }
 {
-    groups
-        .iter()
-        .any(|group| has_name(own, group.as_str()))
+    groups.iter().any(|group| has_name(own, group.as_str()))
 }
 
 /// Whether one of some groups is one of a recipe's own; each recipe is, where none are given.
@@ -188,6 +186,7 @@ fn push_choices_of(
 }
 
 /// The lines of those recipes of modules that can be chosen.
+#[tactic(auto, using(crate::proofs::ChoiceLaws::one_module))]
 fn choices_of_modules(
     alloc: Global,
     config: &Config,
