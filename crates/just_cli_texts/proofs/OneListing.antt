@@ -12,24 +12,12 @@ use Rattle.just_print_lists.specs.declared.listed.ListedModule.{ListedModule}
 use Rattle.just_print_lists.specs.Groups.{is_nil, ungrouped, grouped}
 use Rattle.just_print_lists.specs.Listed.{groups_of, named_groups_of}
 use Rattle.just_print_lists.specs.Summaries.{public_recipes, public_modules, paths_of, AreInTurn, ArePaths}
+use Rattle.just_print_lists.proofs.InTurn.{same_modules}
 
 -- ---- paths
 
-none_in_turn : (u : Bool) (ms all : List ListedModule) → AreInTurn u ms all → ms ≡ [] → all ≡ []
-none_in_turn u ms all AreInTurn.none h = refl
-none_in_turn u ms all (AreInTurn.first m js more a) h = absurd (let no : ⊥ = cc in no)
-
-in_turn_by : (u : Bool) (ms all : List ListedModule) → AreInTurn u ms all → (ns others : List ListedModule) → AreInTurn u ns others → ms ≡ ns → all ≡ others
-in_turn_by u ms all AreInTurn.none ns others b h = sym (none_in_turn u ns others b (sym h))
-in_turn_by u ms all (AreInTurn.first m js more a) ns others AreInTurn.none h = absurd (let no : ⊥ = cc in no)
-in_turn_by u ms all (AreInTurn.first m js more a) ns others (AreInTurn.first k ks rest b) h =
-    let one : m ≡ k = cc in
-    let more_are : js ≡ ks = cc in
-    ap (λ x. x ∷ more) one
-    ∙ ap (λ l. k ∷ l) (in_turn_by u (public_modules u m ++ js) more a (public_modules u k ++ ks) rest b (ap (λ x. public_modules u x ++ js) one ∙ ap (λ l. public_modules u k ++ l) more_are))
-
 pub turns_one : (u : Bool) (root : ListedModule) (xs ys : List ListedModule) → AreInTurn u (root ∷ []) xs → AreInTurn u (root ∷ []) ys → xs ≡ ys
-turns_one u root xs ys a b = in_turn_by u (root ∷ []) xs a (root ∷ []) ys b refl
+turns_one u root xs ys a b = same_modules u (root ∷ []) xs ys a b
 
 pub paths_one : (u : Bool) (root : ListedModule) (xs ys : List (List ℕ)) → ArePaths u root xs → ArePaths u root ys → xs ≡ ys
 paths_one u root xs ys (all, a, is) (others, b, at) = is ∙ (ap (λ (l : List ListedModule). flat_map (paths_of u) l) (turns_one u root all others a b) ∙ sym at)

@@ -159,7 +159,7 @@ fn changed_in(
 }
 
 /// What changes without or with `set export`, where `B` and `G` are taken out.
-/// No clause: it serves tests alone.
+/// The one error is want of memory. No clause: it serves tests alone.
 pub fn changed(alloc: Global, export: bool) -> Result<String, NoMemory> {
     let unexports = texts(alloc, &["B", "G"])?;
     let pairs = pairs(alloc)?;

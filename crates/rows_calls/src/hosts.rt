@@ -48,7 +48,7 @@ fn environ(alloc: Global) -> Result<Environ, NoMemory> {
 }
 
 /// A host in the folder `/p` with that justfile, over which nothing happens.
-/// No clause: it serves tests alone.
+/// The one error is want of memory. No clause: it serves tests alone.
 pub fn memory(alloc: Global, justfile: &str) -> Result<MemHost, NoMemory> {
     let tree = tree(alloc, justfile)?;
     let environ = environ(alloc)?;

@@ -24,7 +24,7 @@ fn shown<H: Host + Drop>(alloc: Global, host: H) -> Result<String, AllocError> {
 }
 
 /// How many sources that justfile's project has, over the environment that the host gives, and the number of its root, which is loaded already.
-/// No clause: it serves tests alone.
+/// A root that isn't loaded is told as `None`; the one error is want of memory. No clause: it serves tests alone.
 pub fn loaded(alloc: Global, justfile: &str) -> Result<String, NoMemory> {
     let host = memory(alloc, justfile)?;
     Ok(shown(alloc, host)?)

@@ -5,6 +5,7 @@ use just_lang_read::{Boxed, Class, Cursor, ReadError};
 use just_path_text::NoMemory;
 use std::alloc::Global;
 
+/// The digits `0` to `9`.
 struct Digit;
 
 impl Class for Digit {

@@ -69,6 +69,7 @@ fn command_count(node: &PlanNode) -> u32 {
     }
 }
 
+/// Whether a node's body has ended, or its job was given back.
 fn is_done(phases: &[Phase], node: u32) -> bool {
     match phases.get(node as usize) {
         Some(phase) => *phase == Phase::Done || *phase == Phase::Given,
@@ -173,7 +174,7 @@ fn see_all(nodes: &[PlanNode], phases: &mut [Phase], jobs: usize, history: &[Eve
 }
 
 /// Whether each event may come in its turn under that limit of jobs, and each node's job was given back.
-/// No clause: it serves tests alone.
+/// The one error is want of memory. No clause: it serves tests alone.
 pub fn is_legal(
     alloc: Global,
     nodes: &[PlanNode],

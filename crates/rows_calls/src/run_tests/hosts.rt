@@ -25,7 +25,7 @@ fn bare(alloc: Global, plot: Plot) -> Result<MemHost, NoMemory> {
 }
 
 /// A host with no files, over which nothing happens.
-/// No clause: it serves tests alone.
+/// The one error is want of memory. No clause: it serves tests alone.
 pub fn memory(alloc: Global) -> Result<MemHost, NoMemory> {
     bare(alloc, Plot::new(alloc))
 }
@@ -52,7 +52,7 @@ fn add_ending(
 const FAILURES: [(&str, i32); 2] = [("-cu exit 3", 3), ("-cu exit 4", 4)];
 
 /// A host in memory over which the line `exit 3` ends with code 3, and `exit 4` with code 4.
-/// No clause: it serves tests alone.
+/// The one error is want of memory. No clause: it serves tests alone.
 pub fn failing(alloc: Global) -> Result<MemHost, NoMemory> {
     let mut plot = Plot::new(alloc);
     for (word, code) in FAILURES {
@@ -83,7 +83,7 @@ fn with_text(alloc: Global, text: &str) -> Result<Tree, NoMemory> {
 }
 
 /// A host in memory with a justfile of that text in its folder, over which nothing happens.
-/// No clause: it serves tests alone.
+/// The one error is want of memory. No clause: it serves tests alone.
 pub fn with_justfile(alloc: Global, text: &str) -> Result<MemHost, NoMemory> {
     let tree = with_text(alloc, text)?;
     host_of(alloc, tree, Plot::new(alloc))
@@ -106,7 +106,7 @@ fn with_input(alloc: Global) -> Result<Tree, NoMemory> {
 }
 
 /// A host in memory with the file `in`, over which the first body that makes `out` ends well.
-/// No clause: it serves tests alone.
+/// The one error is want of memory. No clause: it serves tests alone.
 pub fn touching(alloc: Global) -> Result<MemHost, NoMemory> {
     let effects = makes_out(alloc)?;
     let tree = with_input(alloc)?;

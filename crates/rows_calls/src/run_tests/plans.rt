@@ -109,8 +109,7 @@ fn planned(rt: &impl Abort, alloc: Global, request: &Request) -> Plan {
     plan
 }
 
-/// The plan of a recipe of that justfile.
-/// No clause: it serves tests alone.
+/// The plan of a recipe of that justfile. Where it is refused the test ends; the one error is want of memory. No clause: it serves tests alone.
 pub fn plan_of(rt: &impl Abort, alloc: Global, text: &str, name: &str) -> Result<Plan, NoMemory> {
     let request = request_of(alloc, text, name)?;
     Ok(planned(rt, alloc, &request))

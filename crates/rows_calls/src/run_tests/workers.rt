@@ -12,8 +12,7 @@ use std::process::Abort;
 use std::sync::Wait;
 use std::thread::Threads;
 
-/// What a run left, taken apart.
-/// No clause: it serves tests alone.
+/// What a run left, taken apart: the host, the plan, the history and the verdict. No clause: it serves tests alone.
 pub fn left<H: Host>(driven: Driven<H>) -> (H, Plan, Seq<Event>, Verdict) {
     let Driven {
         host,
@@ -24,7 +23,7 @@ pub fn left<H: Host>(driven: Driven<H>) -> (H, Plan, Seq<Event>, Verdict) {
     (host, plan, history, verdict)
 }
 
-/// The run of a plan over a host, to its end.
+/// The run of a plan over a host, to its end: the host behind it, the plan, its history and its verdict. The test ends where memory is wanting.
 /// No clause: it serves tests alone.
 pub fn run_of<R: Threads + Wait + Sync + Abort, H: Host + Send + Drop>(
     rt: &R,
@@ -39,8 +38,7 @@ pub fn run_of<R: Threads + Wait + Sync + Abort, H: Host + Send + Drop>(
     }
 }
 
-/// What was told is what is wanted.
-/// No clause: it serves tests alone.
+/// What was told is what is wanted; else the test ends there. No clause: it serves tests alone.
 pub fn tells(rt: &impl Abort, told: &str, want: &str) {
     assert_eq!(rt; told, want);
 }
