@@ -4,6 +4,7 @@ ghost use Rattle.std.specs.Prelude.{◌≡◌, ◌++◌, ◌∷◌, [], if◌the
 ghost use Rattle.std.specs.List.{flat_map, list_any};
 ghost use Rattle.std.specs.Option.{option_copied};
 ghost use Rattle.just_lang.specs.Assembled.{IsSoundlyMadeOf};
+ghost use Rattle.just_print_lists.specs.Groups.{has_name};
 ghost use Rattle.just_print_commands.specs.Projects.{parts};
 ghost use Rattle.just_exec.specs.Parts.{is_needed};
 ghost use Rattle.just_cli_plan.specs.Own.{OrMemory};
@@ -82,11 +83,18 @@ fn needs_none(recipe: Option<&Recipe>) -> bool
     }
 }
 
+/// Whether one of some groups is one of a recipe's own.
+fn is_of_one(groups: &[Text], own: &[Text]) -> bool
+    ensures { result ≡ list_any (λ g. has_name g own.now) groups.now }
+{
+    groups.iter().any(|group| has_name(own, group.as_str()))
+}
+
 /// Whether one of some groups is one of a recipe's own; each recipe is, where none are given.
 fn is_of_groups(groups: &[Text], own: &[Text]) -> bool
     ensures { result ≡ is_of_groups groups.now own.now }
 {
-    is_nil(groups) || groups.iter().any(|group| has_name(own, group.as_str()))
+    is_nil(groups) || is_of_one(groups, own)
 }
 
 /// Whether a recipe of a module can be chosen, where recipes of these groups can, or of any where none are given.
@@ -177,6 +185,25 @@ fn push_choices_of(
     push_choices(alloc, lines, groups, outer, justfile, recipes.as_slice())
 }
 
+/// The lines of those recipes of modules that can be chosen.
+#[tactic(auto, using(crate::proofs::ChoiceLaws::one_module))]
+fn choices_of_modules(
+    alloc: Global,
+    config: &Config,
+    justfiles: &[&Justfile],
+    modules: &[&ListedModule],
+) -> Result<Vec<Text>, NoMemory>
+    ensures { IfOk result (λ v. v.items
+        ≡ flat_map (choices_of config.now (map (λ j. j.now) justfiles.now))
+        (map (λ m. m.now) modules.now)) }
+{
+    let mut lines = Vec::new(alloc);
+    'modules: for outer in modules {
+        push_choices_of(alloc, config, justfiles, &mut lines, *outer)?;
+    }
+    Ok(lines)
+}
+
 /// The lines of those recipes of a project that can be chosen.
 fn choices(
     alloc: Global,
@@ -186,10 +213,7 @@ fn choices(
     ensures { IfOk result (λ v. AreChoices config.now (parts project.entry) v.items) }
 {
     let all = modules_in_turn(alloc, config.unsorted, project.tree)?;
-    let mut lines = Vec::new(alloc);
-    'modules: for outer in all.as_slice() {
-        push_choices_of(alloc, config, project.justfiles, &mut lines, *outer)?;
-    }
+    let lines = choices_of_modules(alloc, config, project.justfiles, all.as_slice())?;
     Ok(lines)
 }
 
@@ -206,7 +230,6 @@ fn fed(alloc: Global, lines: &[Text]) -> Result<String, NoMemory>
 }
 
 /// What a chooser is fed of a justfile with its layout: the spaced paths of the recipes that can be chosen, one a line.
-#[tactic(auto, using(crate::proofs::ChoiceLaws::feeds_some, crate::proofs::ChoiceLaws::feeds_none))]
 pub fn feed(
     alloc: Global,
     config: &Config,
