@@ -242,7 +242,7 @@ module _ (c : ConfigRequest) (location : Location) (q : LaidRequest) (before aft
 -- ---- the run of words
 
 -- the words change nothing of what is allowed
-same_allowed : (c : Config) (words : List (List ℕ)) (x : Result Reply Error) → allowed (with_words c words) x ≡ allowed c x
+pub same_allowed : (c : Config) (words : List (List ℕ)) (x : Result Reply Error) → allowed (with_words c words) x ≡ allowed c x
 same_allowed c words (Ok o) = refl
 same_allowed c words (Err e) = refl
 

@@ -1,4 +1,4 @@
--- What is asked behind a project by words that are chosen is what a run of those words asks.
+-- What words that are chosen ask for behind a project is what a run of those words asks for.
 use Rattle.std.proofs.Common.{◌≡◌, ◌++◌, ℕ, Bool, true, List, [], ◌∷◌, Option, Some, None, Result, Ok, Err, refl, sym, ◌∙◌, ap, subst, append_assoc}
 use Rattle.std.specs.Prelude.{◌||◌}
 use Rattle.just_host_record.specs.World.{World}
@@ -16,12 +16,15 @@ use Rattle.just_cli_plan.proofs.Steps.{refused_or_found}
 use Rattle.just_cli_texts.specs.Laid.{LaidRequest, project_with, FindsLaid}
 use Rattle.just_cli_children.specs.Configs.{is_summary, dotenv_of, flags_of, wanted_of, with_words, wanted_with}
 use Rattle.just_cli.specs.Acts.{Act, Behind}
+use Rattle.just_cli.specs.Asked.{as_choice, as_reply}
 use Rattle.just_cli.specs.ChosenRuns.{ChoicesAreRuns}
-use Rattle.just_cli.specs.Choosing.{project_for, request_for, falls_from, TriesBehind}
+use Rattle.just_cli.specs.Choosing.{project_for, request_for, falls_from, TriesBehind, as_some}
+use Rattle.just_cli.specs.Options.{allowed}
 use Rattle.just_cli.specs.Replies.{Reply}
 use Rattle.just_cli.specs.Request.{LoadsSources, FindsProjectOf, FindsProjectAt, RepliesTo, AnswersAt, at_place}
 use Rattle.just_cli.specs.Taken.{TriesFrom}
 use Rattle.just_cli.specs.Words.{ConfigRequest, LocatedRequest, JustfileRequest, TakesFile}
+use Rattle.just_cli.proofs.Choices.{same_allowed}
 use Rattle.just_cli.proofs.Climbing.{climb_of_first, first_of_climb}
 
 -- ---- the project is found by a run of these words too
@@ -92,6 +95,15 @@ module _ (q : LocatedRequest) (p : LaidRequest) (words : List (List ℕ)) (told 
       TriesFrom.falls told middle after (front ++ rest) (front ++ fore) hind q.location next e x (answers_so fore middle (Err e) true (sym sets) replies) lack falls (climb_of_first asked middle hind after next x more)
       (ap (λ l. front ++ l) cut ∙ sym (append_assoc front fore hind))
 
+-- an answer that there is asks for what it is
+choice_is_reply : (dry : Bool) (x : Result Reply Error) → as_choice dry (as_some x) ≡ as_reply dry x
+choice_is_reply dry (Ok o) = refl
+choice_is_reply dry (Err e) = refl
+
 pub choices_are_runs : ChoicesAreRuns
-choices_are_runs q p named words told between after front rest x choose finds tries =
-    first_of_climb (request_for q words) told (front ++ rest) after q.location x (tries_so q p words told between after front (finds_too words told between front q named p choose finds) rest x tries)
+choices_are_runs q p named [] told between after front rest r choose some finds runs = absurd (let no : ⊥ = cc in no)
+choices_are_runs q p named (w ∷ ws) told between after front rest r choose some finds (x, tries, is) =
+    let words : List (List ℕ) = w ∷ ws in
+    let from = tries_so q p words told between after front (finds_too words told between front q named p choose finds) rest x tries in
+    let first = first_of_climb (request_for q words) told (front ++ rest) after q.location x from in
+    (allowed q.config x, (x, first, sym (same_allowed q.config words x)), ap (λ y. as_choice q.config.dry_run y) is ∙ choice_is_reply q.config.dry_run (allowed q.config x))

@@ -28,7 +28,7 @@ use Rattle.just_cli.proofs.Acting.{no_fault}
 
 -- ---- acts
 
-none_made : (acts : List Act) → acts ≡ [] → AreFolders acts
+pub none_made : (acts : List Act) → acts ≡ [] → AreFolders acts
 none_made acts none = subst (λ l. AreFolders l) (sym none) tt
 
 all_made : (folders : List (List ℕ)) → AreFolders (map Act.made folders)
@@ -44,7 +44,7 @@ made_then (Act.made folder ∷ front) rest a b = made_then front rest a b
 made_then (Act.captured c ∷ front) rest a b = absurd a
 made_then (Act.uncaptured program ∷ front) rest a b = absurd a
 
-made_both : (acts front rest : List Act) → acts ≡ front ++ rest → AreFolders front → AreFolders rest → AreFolders acts
+pub made_both : (acts front rest : List Act) → acts ≡ front ++ rest → AreFolders front → AreFolders rest → AreFolders acts
 made_both acts front rest split a b = subst (λ l. AreFolders l) (sym split) (made_then front rest a b)
 
 -- ---- the project

@@ -12,7 +12,10 @@ pub mod Choices
 pub mod ChosenLaws
 pub mod Climbing
 pub mod Commanding
+pub mod DryChain
 pub mod DryLaws
+pub mod DryRecord
+pub mod DryWork
 pub mod Ending
 pub mod Falls
 pub mod FolderActs

@@ -10,7 +10,7 @@ use Rattle.just_host_record.specs.declared.entry.Entry.{Entry}
 use Rattle.just_host_record.specs.declared.entry.Call.TheVariants as call
 use Rattle.just_host_record.specs.declared.entry.HostFault.{HostFault}
 use Rattle.just_host_record.specs.declared.entry.HostFault.TheVariants as fault
-use Rattle.just_host_record.specs.Record.{is_failed, refused}
+use Rattle.just_host_record.specs.Record.{is_failed}
 use Rattle.just_host_record.specs.World.{World, view_of}
 use Rattle.just_config.specs.declared.config.Config.{Config}
 use Rattle.just_config.specs.declared.search_config.SearchConfig.{SearchConfig}

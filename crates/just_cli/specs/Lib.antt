@@ -9,6 +9,8 @@ pub mod ChosenRuns
 pub mod Cleaning
 pub mod Commands
 pub mod Dry
+pub mod DryPlans
+pub mod DryRecords
 pub mod Exit
 pub mod Invoked
 pub mod NewPath

@@ -1,5 +1,5 @@
 -- The file of a justfile in a place, as a part of a preparation.
-use Rattle.std.specs.Prelude.{ℕ, ◌≡◌, ◌&&◌, ◌++◌, Bool, true, false, List, [], ◌∷◌, Option, Some, None, Result, Ok, Err}
+use Rattle.std.specs.Prelude.{ℕ, ◌≡◌, ◌&&◌, ◌++◌, Bool, true, false, List, [], Option, Some, None, Result, Ok, Err}
 use Rattle.just_path_text.specs.declared.environ.Environ.{Environ}
 use Rattle.just_host_record.specs.World.{World, Moment}
 use Rattle.just_config.specs.declared.config.Config.{Config}

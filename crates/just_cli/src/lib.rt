@@ -35,6 +35,9 @@ pub use just_host::{Call, Host, HostFault, Look, RealHost, Signal, Status};
 pub use just_path::{Miss, Utf8PathBuf};
 pub use just_path_text::{NoMemory, Seq, Text};
 pub use just_sched::{Event, Outcome, Plan, PlanNode, Reason};
-pub use law::{choices_are_runs, dry_runs_run_no_child, first_answers};
+pub use law::{
+    choices_are_runs, dry_runs_plan_the_same, dry_runs_run_no_child, dry_runs_run_nothing,
+    first_answers,
+};
 pub use program::{exit_status, no_arguments, run_arguments};
 pub use runner::{run, run_with};

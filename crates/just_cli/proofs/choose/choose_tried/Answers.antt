@@ -12,6 +12,6 @@ pub returns-in-Ok-reply_to_words : goal.returns-in-Ok-reply_to_words
 returns-in-Ok-reply_to_words g c =
     choices_run _ (g.H.Host.told c.args.host.now) _ (g.H.Host.told c.project_at.new.host) _ _ c.in-Ok.ensures.project (g.H.Host.told c.chosen_of.new.host) _ c.in-Ok-chosen_of.ensures (g.H.Host.told c.reply_to_words.new.host) _ _ c.in-Ok-reply_to_words.ensures
 
-pub returns : goal.returns
-returns g c =
+pub returns-in-Err-reply_to_words : goal.returns-in-Err-reply_to_words
+returns-in-Err-reply_to_words g c =
     choices_run _ (g.H.Host.told c.args.host.now) _ (g.H.Host.told c.project_at.new.host) _ _ c.in-Ok.ensures.project (g.H.Host.told c.chosen_of.new.host) _ c.in-Ok-chosen_of.ensures (g.H.Host.told c.reply_to_words.new.host) _ _ c.in-Err-reply_to_words.ensures

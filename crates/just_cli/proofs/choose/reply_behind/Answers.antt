@@ -14,14 +14,14 @@ returns-then-not-falls_back g c =
 pub returns-in-Ok-Some : goal.returns-in-Ok-Some
 returns-in-Ok-Some g c =
     behind_next _ _ (laid_in c.args.wanted c.args.environ.now c.args.laid) (g.H.Host.told c.args.host.now) _ (g.H.Host.told c.reply_of-replied.new.host) _ _ refl _ c.falls_back.ensures (rw c.in-Err.is at c.reply_of-replied.ensures) c.if-not-falls_back.false
-    (g.H.Host.told c.find_fallback.new.host) c.find_fallback.ensures.world _ (rw c.as_path-folder.ensures at c.in-Ok-Some.ensures.found) c.in-Ok-Some.ensures.entries (g.H.Host.told c.reply_from.new.host) _ _ c.reply_from.ensures
+    (g.H.Host.told c.find_fallback.new.host) c.find_fallback.ensures.world _ (rw (c.as_path-folder.ensures, c.in-Ok-Some.field-0-is) at c.in-Ok-Some.ensures.found) c.in-Ok-Some.ensures.entries (g.H.Host.told c.reply_from.new.host) _ _ c.reply_from.ensures
 
 pub returns-in-Ok-None : goal.returns-in-Ok-None
 returns-in-Ok-None g c =
     behind_highest _ _ (laid_in c.args.wanted c.args.environ.now c.args.laid) (g.H.Host.told c.args.host.now) _ (g.H.Host.told c.reply_of-replied.new.host) _ _ refl _ c.falls_back.ensures (rw c.in-Err.is at c.reply_of-replied.ensures) c.if-not-falls_back.false
-    (g.H.Host.told c.find_fallback.new.host) c.find_fallback.ensures.world (rw c.as_path-folder.ensures at c.in-Ok-None.ensures.found) c.in-Ok-None.ensures.entries
+    (g.H.Host.told c.find_fallback.new.host) c.find_fallback.ensures.world (rw (c.as_path-folder.ensures, c.in-Ok-None.field-0-is) at c.in-Ok-None.ensures.found) c.in-Ok-None.ensures.entries
 
-pub returns-in-Err-find_fallback : goal.returns-in-Err-find_fallback
-returns-in-Err-find_fallback g c =
+pub returns : goal.returns
+returns g c =
     behind_unlooked _ _ (laid_in c.args.wanted c.args.environ.now c.args.laid) (g.H.Host.told c.args.host.now) _ (g.H.Host.told c.reply_of-replied.new.host) _ _ refl _ c.falls_back.ensures (rw c.in-Err.is at c.reply_of-replied.ensures) c.if-not-falls_back.false
     (g.H.Host.told c.find_fallback.new.host) c.find_fallback.ensures.world c.in-Err-find_fallback.refusal _ (rw c.as_path-folder.ensures at c.in-Err-find_fallback.ensures.found) c.from.ensures c.in-Err-find_fallback.ensures.entries

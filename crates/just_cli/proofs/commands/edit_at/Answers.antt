@@ -23,7 +23,7 @@ returns-in-Ok-child-clause-edits g c =
 pub returns-in-Ok-child-clause-found : goal.returns-in-Ok-child-clause-found
 returns-in-Ok-child-clause-found g c = ap (λ (x : Child). x.spec.script) c.in-Ok-child.ensures
 
-pub returns-clause-edits : goal.returns-clause-edits
-returns-clause-edits g c =
+pub returns-in-Err-child-clause-edits : goal.returns-in-Err-child-clause-edits
+returns-in-Err-child-clause-edits g c =
     let now = g.H.Host.told c.take.new.host in
     file_asked (λ told. EditsIt) _ _ _ (g.H.Host.told c.args.host.now) _ now now _ _ _ c.in-Ok.ensures refl (Err error.NoMemory) (left_nothing now.entries error.NoMemory refl) (inl refl)

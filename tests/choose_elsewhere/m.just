@@ -1,0 +1,4 @@
+set default-list
+
+x:
+	@echo x
