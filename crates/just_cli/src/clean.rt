@@ -94,7 +94,7 @@ pub(crate) fn clean<H: Host>(
     path: Option<Modulepath>,
     quiet: bool,
 ) -> Ended<H>
-    requires { IsPathOrNone path }
+    requires path { IsPathOrNone path }
     ensures { IsCleaned folder path quiet (H.told host) (H.told result.host) result.result }
 {
     let mut host = host;

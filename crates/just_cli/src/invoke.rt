@@ -13,7 +13,7 @@ use std::alloc::Global;
 
 /// Runs a child alone, in the place of a run, and waits for it.
 pub(crate) fn invoke<H: Host>(alloc: Global, host: H, child: Child, quiet: bool) -> Ended<H>
-    requires { HasNoScript child }
+    requires alone { HasNoScript child }
     ensures { IsInvoked child quiet (H.told host) (H.told result.host) result.result }
 {
     let mut host = host;

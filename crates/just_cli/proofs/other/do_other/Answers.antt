@@ -23,15 +23,15 @@ returns-in-Nothing g c = does_so c.args.other no_run.Nothing c.args.quiet _ _ _ 
 pub returns-in-Write : goal.returns-in-Write
 returns-in-Write g c = does_so c.args.other (no_run.Write c.in-Write.path c.in-Write.text) c.args.quiet _ _ _ c.in-Write.is (rw c.as_str.ensures at c.write_justfile-in-Write.ensures)
 
-pub clean-requires : goal.clean-requires
-clean-requires g c =
+pub clean-requires-clause-path : goal.clean-requires-clause-path
+clean-requires-clause-path g c =
     let known : IsPathOrNone c.in-Clean.path = rw c.in-Clean.is at c.requires.path in search rules
 
 pub returns-in-Clean : goal.returns-in-Clean
 returns-in-Clean g c = does_so c.args.other (no_run.Clean c.in-Clean.folder c.in-Clean.path) c.args.quiet _ _ _ c.in-Clean.is c.clean.ensures
 
-pub invoke-requires : goal.invoke-requires
-invoke-requires g c =
+pub invoke-requires-clause-alone : goal.invoke-requires-clause-alone
+invoke-requires-clause-alone g c =
     let known : HasNoScript c.in-Invoke.child = rw c.in-Invoke.is at c.requires.path in search rules
 
 pub returns-in-Invoke : goal.returns-in-Invoke

@@ -15,7 +15,7 @@ returns-in-Ok-asked_by-clause-asked g c =
     configured (g.H.Host.told c.args.host.now) _ _ _ _ c.in-Ok.ensures.gives _ c.in-Ok-configure.ensures.gives c.in-Ok-configure.ensures.config (g.H.Host.told c.current_folder.new.host) (g.H.Host.told c.asked_by.new.host)
     (moment_by (g.H.Host.told c.current_folder.new.host) (g.H.Host.told c.args.host.now) c.in-Ok.ensures.grew c.current_folder.ensures.world) _ _ c.in-Ok-asked_by.ensures.asked
 
-pub returns-clause-asked : goal.returns-clause-asked
-returns-clause-asked g c =
+pub returns-in-Err-asked_by-clause-asked : goal.returns-in-Err-asked_by-clause-asked
+returns-in-Err-asked_by-clause-asked g c =
     configured (g.H.Host.told c.args.host.now) _ _ _ _ c.in-Ok.ensures.gives _ c.in-Ok-configure.ensures.gives c.in-Ok-configure.ensures.config (g.H.Host.told c.current_folder.new.host) (g.H.Host.told c.asked_by.new.host)
     (moment_by (g.H.Host.told c.current_folder.new.host) (g.H.Host.told c.args.host.now) c.in-Ok.ensures.grew c.current_folder.ensures.world) _ _ c.in-Err-asked_by.ensures.asked
