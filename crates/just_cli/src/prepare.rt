@@ -77,12 +77,12 @@ fn respond_alone(alloc: Global, environ: &Environ, config: &Config) -> Result<Ot
 fn answer_alone(alloc: Global, environ: &Environ, config: &Config) -> Result<Other, Error>
     requires alone { reads_justfile (kind_of config.now.subcommand) ≡ false }
     requires old { is_new (kind_of config.now.subcommand) ≡ false }
-    ensures asked { (told : Option World) → IfOk result (λ x.
+    ensures asked { IfOk result (λ x. (told : Option World) →
         AsksAlone (kind_of config.now.subcommand) told
         (record { config = config.now; environ = environ.now }) (as_other (Ok x))) }
-    ensures refused { (told : Option World) → IfErr result (OrMemory (λ e.
+    ensures refused { IfErr result (λ e. (told : Option World) → OrMemory (λ f.
         AsksAlone (kind_of config.now.subcommand) told
-        (record { config = config.now; environ = environ.now }) (Err e))) }
+        (record { config = config.now; environ = environ.now }) (Err f)) e) }
     ensures found { IfOk result IsCommand }
     ensures silent { IfErr result (λ e. entries_of e ≡ []) }
 {

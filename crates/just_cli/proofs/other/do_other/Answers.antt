@@ -1,4 +1,6 @@
 -- Each is done as it is to be.
+use Rattle.std.proofs.Common.{rules}
+use Rattle.just_cli.specs.Tasks.{HasNoScript, IsPathOrNone}
 use Rattle.just_cli.specs.declared.task.Other.TheVariants as no_run
 use Rattle.just_cli.proofs.Ending.{does_so}
 use Rattle.just_cli.proofs.other.do_other.Goals as goal
@@ -22,13 +24,15 @@ pub returns-in-Write : goal.returns-in-Write
 returns-in-Write g c = does_so c.args.other (no_run.Write c.in-Write.path c.in-Write.text) c.args.quiet _ _ _ c.in-Write.is (rw c.as_str.ensures at c.write_justfile-in-Write.ensures)
 
 pub clean-requires-clause-path : goal.clean-requires-clause-path
-clean-requires-clause-path g c = rw c.in-Clean.is at c.requires.path
+clean-requires-clause-path g c =
+    let known : IsPathOrNone c.in-Clean.path = rw c.in-Clean.is at c.requires.path in search rules
 
 pub returns-in-Clean : goal.returns-in-Clean
 returns-in-Clean g c = does_so c.args.other (no_run.Clean c.in-Clean.folder c.in-Clean.path) c.args.quiet _ _ _ c.in-Clean.is c.clean.ensures
 
 pub invoke-requires-clause-alone : goal.invoke-requires-clause-alone
-invoke-requires-clause-alone g c = rw c.in-Invoke.is at c.requires.path
+invoke-requires-clause-alone g c =
+    let known : HasNoScript c.in-Invoke.child = rw c.in-Invoke.is at c.requires.path in search rules
 
 pub returns-in-Invoke : goal.returns-in-Invoke
 returns-in-Invoke g c = does_so c.args.other (no_run.Invoke c.in-Invoke.child) c.args.quiet _ _ _ c.in-Invoke.is c.invoke.ensures
